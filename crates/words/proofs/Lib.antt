@@ -1,0 +1,4 @@
+pub mod Any
+pub mod Entries
+pub mod All
+pub mod First

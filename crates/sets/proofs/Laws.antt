@@ -1,18 +1,18 @@
 -- Membership in a number's binary digits, once over every number and every width.
-use Prim.Native.Nat.{ℕ, zero, suc, suc-le-suc, _+_, _*_, _/_, _%_, _^_, _≤_, _<_}
+use Prim.Native.Nat.{ℕ, zero, suc, suc-le-suc, _+_, _-_, _*_, _/_, _%_, _^_, _≤_, _<_}
 use mathlib.Core.Path.{_≡_, refl, sym, ap, ap₂, _∙_, subst}
 use mathlib.Core.Logic.{_↔_}
-use mathlib.Core.Bool.{Bool, true, false, not, _&&_, _||_, false≢true, or-false, or-true}
-use native.Mathlib.Nat.{div-one, mod-lt, zero-lt-suc, two-pow-succ, pow-suc, div-add-mod', div-eq-of-lt, mod-eq-of-lt, lt-of-lt-of-le, lt-of-not-le, one-mul, add-left-comm, mul-mod-left, mul-div-cancel}
+use mathlib.Core.Bool.{Bool, true, false, not, _&&_, _||_, false≢true, and-self, and-true, or-false, or-true}
+use native.Mathlib.Nat.{div-one, mod-lt, zero-lt-suc, two-pow-succ, pow-suc, div-add-mod', div-eq-of-lt, mod-eq-of-lt, le-antisymm, le-of-suc-le-suc, lt-of-lt-of-le, lt-of-not-le, one-mul, add-left-comm, mul-mod-left, mul-div-cancel}
 use native.Mathlib.Numerals.{one-add, add-one}
 use native.Mathlib.Omega.{arith}
 use lib.Dec.{eqb, eqb·suc-zero, eqb·zero-suc, eqb·suc-suc}
 use lib.Arith.{lt-one}
 use lib.Pow.{pow-lt, pow-mono, shr-lt, shr-shr}
-use lib.Bits.{bitAnd, bitOr, bitXor, and-shr, and-mod, or-shr, or-mod, xor-shr, xor-mod}
-use lib.Count.{ones, ones-step}
+use lib.Bits.{bitAnd, bitOr, bitXor, and-shr, and-mod, or-shr, or-mod, xor-shr, xor-mod, and-le-r}
+use lib.Count.{ones, ones-step, trailingZeros, under}
 use borrow.Author.Tests.{eqb-true, eq-eqb}
-use Rattle.sets.specs.Member.{has, With, Without, Less, Within}
+use Rattle.sets.specs.Member.{has, With, Without, Less, Within, Lowest, Rest}
 use Rattle.sets.specs.Counting.{bit, countBelow}
 
 -- ---- a digit at a time
@@ -27,8 +27,12 @@ unfolding has
 digit-has x i = digit-test (x / 2 ^ i % 2) (mod-lt (x / 2 ^ i) (zero-lt-suc 1))
 
 -- the lowest digit says whether 0 is a member, and the others hold the rest, one lower
-has-zero : (x : ℕ) → x % 2 ≡ bit (has x 0)
-has-zero x = ap (λ (n : ℕ). n % 2) (sym (div-one x)) ∙ digit-has x 0
+has-zero : (x : ℕ) → has x 0 ≡ eqb (x % 2) 1
+unfolding has
+has-zero x = ap (λ (n : ℕ). eqb (n % 2) 1) (div-one x)
+
+digit-zero : (x : ℕ) → x % 2 ≡ bit (has x 0)
+digit-zero x = ap (λ (n : ℕ). n % 2) (sym (div-one x)) ∙ digit-has x 0
 
 has-suc : (x i : ℕ) → has x (suc i) ≡ has (x / 2) i
 unfolding has
@@ -58,7 +62,7 @@ has-ext (suc k) x y hx hy h =
     sym (div-add-mod' x 2)
     ∙ ap₂ (λ (q d : ℕ). q * 2 + d)
     (has-ext k (x / 2) (y / 2) (half-lt k hx) (half-lt k hy) (λ i l. sym (has-suc x i) ∙ h (suc i) (suc-le-suc l) ∙ has-suc y i))
-    (has-zero x ∙ ap bit (h 0 (zero-lt-suc k)) ∙ sym (has-zero y))
+    (digit-zero x ∙ ap bit (h 0 (zero-lt-suc k)) ∙ sym (digit-zero y))
     ∙ div-add-mod' y 2
 
 lt-two-pow : (n : ℕ) → n < 2 ^ n
@@ -111,7 +115,7 @@ unfolding has
 has-pow zero zero = refl
 has-pow zero (suc j) = has-above 1 1 (suc j) (omega arith) (omega arith) ∙ sym (eqb·suc-zero j)
 has-pow (suc i) zero =
-    ap (λ (n : ℕ). eqb (n % 2) 1) (div-one (2 ^ suc i) ∙ pow-suc 2 i) ∙ ap (λ (n : ℕ). eqb n 1) (mul-mod-left (2 ^ i) 2) ∙ sym (eqb·zero-suc i)
+    has-zero (2 ^ suc i) ∙ ap (λ (n : ℕ). eqb n 1) (ap (λ (n : ℕ). n % 2) (pow-suc 2 i) ∙ mul-mod-left (2 ^ i) 2) ∙ sym (eqb·zero-suc i)
 has-pow (suc i) (suc j) =
     has-suc (2 ^ suc i) j
     ∙ ap (λ (n : ℕ). has n j) (ap (λ (n : ℕ). n / 2) (pow-suc 2 i) ∙ mul-div-cancel (2 ^ i) (zero-lt-suc 1))
@@ -159,7 +163,7 @@ unfolding countBelow ones
 ones-passing zero x test h e = ap ones (lt-one h)
 ones-passing (suc k) x test h e =
     ones-step x
-    ∙ ap₂ (λ (d n : ℕ). d + n) (has-zero x ∙ ap bit (e 0 (zero-lt-suc k)))
+    ∙ ap₂ (λ (d n : ℕ). d + n) (digit-zero x ∙ ap bit (e 0 (zero-lt-suc k)))
     (ones-passing k (x / 2) (λ i. test (suc i)) (half-lt k h) (λ i l. sym (has-suc x i) ∙ e (suc i) (suc-le-suc l)))
     ∙ sym (count-first k test)
 
@@ -170,11 +174,67 @@ ones-count k x h = ones-passing k x (λ i. has x i) h (λ i l. refl)
 -- one more member is one more
 pub ones-with : (x i r : ℕ) → has x i ≡ false → With x i r → ones r ≡ suc (ones x)
 ones-with x zero r n w =
-    let dr : r % 2 ≡ 1 = has-zero r ∙ ap bit (w 0 ∙ or-true (has x 0)) in
-    let dx : x % 2 ≡ 0 = has-zero x ∙ ap bit n in
+    let dr : r % 2 ≡ 1 = digit-zero r ∙ ap bit (w 0 ∙ or-true (has x 0)) in
+    let dx : x % 2 ≡ 0 = digit-zero x ∙ ap bit n in
     let half : r / 2 ≡ x / 2 = has-same (r / 2) (x / 2) (λ j. sym (has-suc r j) ∙ w (suc j) ∙ ap (λ (b : Bool). has x (suc j) || b) (eqb·suc-zero j) ∙ or-false (has x (suc j)) ∙ has-suc x j) in
     omega (arith, ones-step r, ones-step x, ap ones half)
 ones-with x (suc i) r n w =
-    let d : r % 2 ≡ x % 2 = has-zero r ∙ ap bit (w 0 ∙ ap (λ (b : Bool). has x 0 || b) (eqb·zero-suc i) ∙ or-false (has x 0)) ∙ sym (has-zero x) in
+    let d : r % 2 ≡ x % 2 = digit-zero r ∙ ap bit (w 0 ∙ ap (λ (b : Bool). has x 0 || b) (eqb·zero-suc i) ∙ or-false (has x 0)) ∙ sym (digit-zero x) in
     let half : ones (r / 2) ≡ suc (ones (x / 2)) = ones-with (x / 2) i (r / 2) (sym (has-suc x i) ∙ n) (λ j. sym (has-suc r j) ∙ w (suc j) ∙ ap₂ (λ (b c : Bool). b || c) (has-suc x j) (eqb·suc-suc j i)) in
     omega (arith, ones-step r, ones-step x)
+
+-- ---- the lowest member, and the rest
+
+-- where 0 is no member, the lowest is one more than that of the half
+lowest-double : (x i : ℕ) → has x 0 ≡ false → Lowest (x / 2) i → Lowest x (suc i)
+lowest-double x i e low = record { member = has-suc x i ∙ low .member; least = least }
+  where
+    least : (j : ℕ) → j < suc i → has x j ≡ false
+    least zero l = e
+    least (suc j) l = has-suc x j ∙ low .least j (le-of-suc-le-suc l)
+
+lowest-half : (x i : ℕ) → Lowest x (suc i) → Lowest (x / 2) i
+lowest-half x i low =
+    record { member = sym (has-suc x i) ∙ low .member; least = λ j l. sym (has-suc x j) ∙ low .least (suc j) (suc-le-suc l) }
+
+-- a set has one lowest member
+pub lowest-same : (x i j : ℕ) → Lowest x i → Lowest x j → i ≡ j
+lowest-same x i j a b = le-antisymm (not-lower a b) (not-lower b a)
+  where
+    not-lower : {m n : ℕ} → Lowest x m → Lowest x n → m ≤ n
+    not-lower {m} {n} a b = le-of-suc-le-suc (lt-of-not-le (λ l. false≢true (sym (a .least n l) ∙ b .member)))
+
+pub lowest-trailing : (k x : ℕ) → 0 < x → x < 2 ^ k → Lowest x (trailingZeros k x)
+unfolding trailingZeros
+lowest-trailing zero x p h = absurd (omega arith)
+lowest-trailing (suc k) x p h = rw (digit-zero x) (go (has x 0) refl (λ q. lowest-trailing k (x / 2) q (half-lt k h)))
+  where
+    go : (b : Bool) → has x 0 ≡ b → (0 < x / 2 → Lowest (x / 2) (trailingZeros k (x / 2))) → Lowest x (under (bit b) (trailingZeros k (x / 2)))
+    go true e half = record { member = e; least = λ j l. absurd (omega arith) }
+    go false e half =
+        let even : x % 2 ≡ 0 = digit-zero x ∙ ap bit e in
+        lowest-double x (trailingZeros k (x / 2)) e (half (omega arith))
+
+-- one less has the same members above the lowest, and not the lowest
+has-pred : (x i j : ℕ) → Lowest x i → (has x j && has (x - 1) j) ≡ (has x j && not (eqb j i))
+has-pred x zero zero low =
+    let odd : x % 2 ≡ 1 = digit-zero x ∙ ap bit (low .member) in
+    let even : (x - 1) % 2 ≡ 0 = omega arith in
+    ap (λ (b : Bool). has x 0 && b) (has-zero (x - 1) ∙ ap (λ (d : ℕ). eqb d 1) even)
+has-pred x zero (suc j) low =
+    let odd : x % 2 ≡ 1 = digit-zero x ∙ ap bit (low .member) in
+    let half : (x - 1) / 2 ≡ x / 2 = omega arith in
+    ap (λ (b : Bool). has x (suc j) && b) (has-suc (x - 1) j ∙ ap (λ (n : ℕ). has n j) half ∙ sym (has-suc x j))
+    ∙ and-self (has x (suc j))
+    ∙ sym (ap (λ (b : Bool). has x (suc j) && not b) (eqb·suc-zero j) ∙ and-true (has x (suc j)))
+has-pred x (suc i) zero low = rw (low .least 0 (zero-lt-suc i)) refl
+has-pred x (suc i) (suc j) low =
+    let even : x % 2 ≡ 0 = digit-zero x ∙ ap bit (low .least 0 (zero-lt-suc i)) in
+    let half : (x - 1) / 2 ≡ x / 2 - 1 = omega arith in
+    ap₂ (λ (b c : Bool). b && c) (has-suc x j) (has-suc (x - 1) j ∙ ap (λ (n : ℕ). has n j) half)
+    ∙ has-pred (x / 2) i j (lowest-half x i low)
+    ∙ sym (ap₂ (λ (b c : Bool). b && not c) (has-suc x j) (eqb·suc-suc j i))
+
+pub rest-and : (x : ℕ) → 0 < x → Rest x (bitAnd x (x - 1))
+rest-and x p =
+    record { others = λ i low j. has-and x (x - 1) j ∙ has-pred x i j low; smaller = omega (arith, and-le-r x (x - 1)) }

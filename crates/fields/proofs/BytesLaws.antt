@@ -11,8 +11,8 @@ use lib.ListN.{length, getD, length-append, List·getD-append}
 use lib.Seq.{getD-append-add, ext-getD}
 use borrow.Author.Tests.{leb-true, le-leb}
 use Rattle.words.specs.Lists.{All, each}
-use Rattle.words.specs.Checks.{AllPass}
 use Rattle.words.proofs.All.{all-append}
+use Rattle.words.proofs.Says.{Says}
 use Rattle.fields.specs.Field.{value, fieldChecks}
 use Rattle.fields.specs.Bytes.{bytesOf, Bytes, Stands}
 
@@ -119,14 +119,16 @@ pub record Holds (s : List ℕ) (at w : ℕ) (Rule : ℕ → Type 0) : Type 0 wh
 abbrev pub Reads : List ℕ → ℕ → ℕ → ℕ → Type 0
 Reads s at w v = Holds s at w (λ x. x ≡ v)
 
--- a field's two checks say that it is there and what its test says
-pub field-says : (cut : ℕ) (s : List ℕ) (at w number : ℕ) (passes : ℕ → Bool) {Rule : ℕ → Type 0} → ((v : ℕ) → (passes v ≡ true) ↔ Rule v)
-    → AllPass (fieldChecks cut s at w number passes) ↔ Holds s at w Rule
+-- a field's two checks say that it is there, and what its test says
+pub field-says : (cut : ℕ) (s : List ℕ) (at w number : ℕ) {passes : ℕ → Bool} {Rule : ℕ → Type 0} → 0 < cut → 0 < number
+    → ((v : ℕ) → (passes v ≡ true) ↔ Rule v) → Says (fieldChecks cut s at w number passes) (Holds s at w Rule)
 unfolding fieldChecks
-field-says cut s at w number passes says = (
-  λ h. record { there = leb-true _ _ (h .0); keeps = says _ .0 (h .1 .0) },
-  λ h. (le-leb _ _ (h .there), (says _ .1 (h .keeps), tt)),
-)
+field-says cut s at w number c n says =
+    record {
+      numbered = (c, (n, tt));
+      passing = λ h. record { there = leb-true _ _ (h .0); keeps = says _ .0 (h .1 .0) };
+      passes = λ h. (le-leb _ _ (h .there), (says _ .1 (h .keeps), tt));
+    }
 
 -- a field that is read stands as its value is written, and back; b is what stands after it
 module _ {s : List ℕ} {at : ℕ} (w v : ℕ) where

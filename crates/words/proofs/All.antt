@@ -2,7 +2,7 @@
 use Prim.Native.Nat.{ℕ, zero, suc, _+_, _≤_, _<_}
 use mathlib.Core.Path.{_≡_, refl, subst, sym}
 use mathlib.Core.List.{List, [], _∷_, _++_}
-use mathlib.Core.Logic.{⊎-elim, _↔_}
+use mathlib.Core.Logic.{⊎-elim}
 use native.Mathlib.Omega.{arith}
 use native.Mathlib.Nat.{eq-or-lt-of-le}
 use Rattle.words.specs.Lists.{All, each}
@@ -35,15 +35,3 @@ module _ {A : Type 0} (P : A → Type 0) where
       (λ (q : i ≡ k). subst (λ (x : ℕ). All P (rule x)) q (all-first (rule i) (each n (i + 1) rule) h))
       (λ (q : i < k). each-all n (i + 1) rule (all-later (rule i) (each n (i + 1) rule) h) k (omega arith) (omega arith))
       (eq-or-lt-of-le l)
-
-  -- both ways at once: what two parts say, and what each part by a rule says
-  pub append-says : (a b : List A) {First Later : Type 0} → All P a ↔ First → All P b ↔ Later → All P (a ++ b) ↔ (First × Later)
-  append-says a b f l =
-      (λ h. (f .0 (all-first a b h), l .0 (all-later a b h)), λ h. all-append a b (f .1 (h .0)) (l .1 (h .1)))
-
-  pub each-says : (n : ℕ) (rule : ℕ → List A) {Part : ℕ → Type 0} → ((k : ℕ) → All P (rule k) ↔ Part k)
-      → All P (each n 0 rule) ↔ ((k : ℕ) → k < n → Part k)
-  each-says n rule says = (
-    λ h k l. says k .0 (each-all n 0 rule h k (omega arith) (omega arith)),
-    λ h. all-each n 0 rule (λ k _ l. says k .1 (h k (omega arith))),
-  )

@@ -3,3 +3,4 @@ pub mod Entries
 pub mod All
 pub mod First
 pub mod Tests
+pub mod Says

@@ -1,2 +1,4 @@
 pub mod Passing
 pub mod Refused
+pub mod Tables
+pub mod Shows

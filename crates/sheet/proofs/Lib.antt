@@ -2,3 +2,4 @@ pub mod Passing
 pub mod Refused
 pub mod Tables
 pub mod Shows
+pub mod Accepted

@@ -1,0 +1,160 @@
+-- What an accepted sheet is: the bytes show it, so that what the checks say of the bytes holds of it.
+use Prim.Native.Nat.{ℕ, zero, suc, _+_, _*_, _≤_, _<_}
+use mathlib.Core.Path.{_≡_, refl, sym, ap, _∙_}
+use mathlib.Core.List.{List}
+use native.Mathlib.Omega.{arith}
+use native.Mathlib.Decide.{decLt}
+use native.Mathlib.Numerals.{add-one}
+use lib.ListN.{length, getD}
+use Rattle.words.proofs.Entries.{length-entries}
+use Rattle.fields.proofs.BytesLaws.{Holds, Reads}
+use Rattle.sheet.specs.Layout.{zoneCount, followOf, crossOf, cartCountAt, cartCount, cartAt, laneOf, arrivalOf, stepCount, zoneOf, passingOf, travelOf, endAt}
+use Rattle.sheet.specs.Reading.{table, stepTable, sheetOf, sheetDone, readSheet}
+use Rattle.sheet.specs.Valid.{steps, Shaped, UnusedZero, ValidStep, ValidCart, Valid}
+use Rattle.sheet.specs.declared.Sheet.{Sheet}
+use Rattle.sheet.proofs.Passing.{ZonePasses, StepPasses, CartPasses, SheetPasses, passing, accepted-passes, passes-accepted}
+use Rattle.sheet.proofs.Tables.{IsStep, table-used, table-unused, step-used, step-unused}
+use Rattle.sheet.proofs.Shows.{ShowsZone, ShowsStep, ShowsCart, Shows}
+
+-- where each cart starts, at most: 46 bytes after the one before it
+pub cart-at-most : (s : List ℕ) (m : ℕ) → ((i : ℕ) → i < m → stepCount s i ≤ 8) → (i : ℕ) → i ≤ m → cartAt s i ≤ cartCountAt s + 1 + 46 * i
+unfolding cartAt
+cart-at-most s m h zero l = omega arith
+cart-at-most s m h (suc i) l = omega (arith, cart-at-most s m h i (omega arith), h i (omega arith))
+
+module _ (s : List ℕ) (p : SheetPasses s) where
+  shaped : Shaped (sheetOf s)
+  unfolding sheetOf
+  shaped =
+      record {
+        follow-24 = length-entries 24 0 _;
+        cross-24 = length-entries 24 0 _;
+        lane-16 = length-entries 16 0 _;
+        arrival-16 = length-entries 16 0 _;
+        steps-16 = length-entries 16 0 _;
+        zone-128 = length-entries 128 0 _;
+        passing-128 = length-entries 128 0 _;
+        travel-128 = length-entries 128 0 _;
+      }
+
+  steps-used : (i : ℕ) → i < cartCount s → steps (sheetOf s) i ≡ stepCount s i
+  unfolding sheetOf
+  steps-used = table-used 16 (cartCount s) (stepCount s) (p .carts .keeps)
+
+  not-step : (i j : ℕ) → steps (sheetOf s) i ≤ j → IsStep s i j → ⊥
+  not-step i j l u = omega (arith, steps-used i (u .0))
+
+  unused : UnusedZero (sheetOf s)
+  unfolding sheetOf
+  unused =
+      record {
+        no-follow = table-unused 24 (zoneCount s) (followOf s);
+        no-cross = table-unused 24 (zoneCount s) (crossOf s);
+        no-lane = table-unused 16 (cartCount s) (laneOf s);
+        no-arrival = table-unused 16 (cartCount s) (arrivalOf s);
+        no-steps = table-unused 16 (cartCount s) (stepCount s);
+        no-zone = λ i j l m. step-unused s (zoneOf s) i j l (not-step i j m);
+        no-passing = λ i j l m. step-unused s (passingOf s) i j l (not-step i j m);
+        no-travel = λ i j l m. step-unused s (travelOf s) i j l (not-step i j m);
+      }
+
+  shows-step : (i j : ℕ) → i < cartCount s → j < stepCount s i → ShowsStep s (sheetOf s) i j
+  unfolding sheetOf
+  shows-step i j l m =
+      let c = p .cart i l in
+      let q = c .step j m in
+      record {
+        zone-is = record { there = q .zone .there; keeps = sym (step-used s (zoneOf s) i j (omega arith) (omega arith) (l, m)) };
+        passing-is = record { there = q .passing .there; keeps = sym (step-used s (passingOf s) i j (omega arith) (omega arith) (l, m)) };
+        travel-is = record { there = q .travel .there; keeps = sym (step-used s (travelOf s) i j (omega arith) (omega arith) (l, m)) };
+      }
+
+  shows-cart : (i : ℕ) → i < cartCount s → ShowsCart s (sheetOf s) i
+  unfolding sheetOf
+  shows-cart i l =
+      let c = p .cart i l in
+      record {
+        lane-is = record { there = c .lane .there; keeps = sym (table-used 16 (cartCount s) (laneOf s) (p .carts .keeps) i l) };
+        arrival-is = record { there = c .arrival .there; keeps = sym (table-used 16 (cartCount s) (arrivalOf s) (p .carts .keeps) i l) };
+        steps-is = record { there = c .steps .there; keeps = sym (steps-used i l) };
+        step = λ j m. shows-step i j l (omega (arith, steps-used i l));
+      }
+
+  shows-zone : (z : ℕ) → z < zoneCount s → ShowsZone s (sheetOf s) z
+  unfolding sheetOf
+  shows-zone z l =
+      let q = p .zone z l in
+      record {
+        follow-is = record { there = q .follow .there; keeps = sym (table-used 24 (zoneCount s) (followOf s) (p .zones .keeps .1) z l) };
+        cross-is = record { there = q .cross .there; keeps = sym (table-used 24 (zoneCount s) (crossOf s) (p .zones .keeps .1) z l) };
+      }
+
+  pub passes-shows : Shows s (sheetOf s)
+  unfolding sheetOf
+  passes-shows =
+      record {
+        version-is = p .version;
+        total-is = p .total;
+        zones-is = record { there = p .zones .there; keeps = refl };
+        zone = shows-zone;
+        carts-is = record { there = p .carts .there; keeps = refl };
+        cart = shows-cart;
+        ends = p .ends;
+      }
+
+-- the ranges, of a sheet that the bytes show
+module _ (s : List ℕ) (sheet : Sheet) (p : SheetPasses s) (h : Shows s sheet) where
+  step-valid : (i j : ℕ) → CartPasses s i → ShowsCart s sheet i → j < steps sheet i → ValidStep sheet i j
+  step-valid i j c q l =
+      let here = c .step j (omega arith) in
+      let shown = q .step j l in
+      record {
+        zone-below = omega arith;
+        once = λ e below same. let first = q .step e (omega arith) in here .once e below (omega arith);
+        passing-most = omega arith;
+        travel-most = omega arith;
+        travel-last = λ last. omega (arith, here .travel .keeps .1 (omega arith));
+      }
+
+  cart-valid : (i : ℕ) → i < sheet .carts → ValidCart sheet i
+  cart-valid i l =
+      let c = p .cart i (omega arith) in
+      let q = h .cart i l in
+      record {
+        lane-most = omega arith;
+        arrival-most = omega arith;
+        steps-least = omega arith;
+        steps-most = omega arith;
+        step = λ j m. step-valid i j c q m;
+        in-lane = λ e below same.
+          let first = h .cart e (omega arith) in
+          omega (arith, p .in-lane i (omega arith) e below (omega arith));
+      }
+
+  shows-valid : Shaped sheet → UnusedZero sheet → Valid sheet
+  shows-valid shape none =
+      record {
+        shaped = shape;
+        zones-least = omega arith;
+        zones-most = omega arith;
+        follow-most = λ z l. let q = h .zone z l in omega (arith, p .zone z (omega arith) .follow .keeps);
+        cross-most = λ z l. let q = h .zone z l in omega (arith, p .zone z (omega arith) .cross .keeps);
+        carts-most = omega arith;
+        cart = cart-valid;
+        unused = none;
+      }
+
+module _ (s : List ℕ) (e : readSheet s .outcome .number ≡ 0) where
+  accepted : SheetPasses s
+  accepted = passing s (accepted-passes s e)
+
+  pub accepted-valid : Valid (readSheet s .sheet)
+  accepted-valid =
+      rw (passes-accepted s (accepted-passes s e))
+      (shows-valid s (sheetOf s) accepted (passes-shows s accepted) (shaped s accepted) (unused s accepted))
+
+  pub accepted-length : (9 ≤ length s) × (length s ≤ 837)
+  accepted-length =
+      let p = accepted in
+      let most = cart-at-most s (cartCount s) (λ i l. p .cart i l .steps .keeps .1) (cartCount s) (omega arith) in
+      (omega arith, omega arith)

@@ -145,16 +145,19 @@ module _ (s : List ℕ) (sheet : Sheet) (p : SheetPasses s) (h : Shows s sheet) 
       }
 
 module _ (s : List ℕ) (e : readSheet s .outcome .number ≡ 0) where
-  accepted : SheetPasses s
-  accepted = passing s (accepted-passes s e)
+  accepted-fields : SheetPasses s
+  accepted-fields = passing s (accepted-passes s e)
+
+  pub accepted-shows : Shows s (readSheet s .sheet)
+  accepted-shows = rw (passes-accepted s (accepted-passes s e)) (passes-shows s accepted-fields)
 
   pub accepted-valid : Valid (readSheet s .sheet)
   accepted-valid =
       rw (passes-accepted s (accepted-passes s e))
-      (shows-valid s (sheetOf s) accepted (passes-shows s accepted) (shaped s accepted) (unused s accepted))
+      (shows-valid s (sheetOf s) accepted-fields (passes-shows s accepted-fields) (shaped s accepted-fields) (unused s accepted-fields))
 
   pub accepted-length : (9 ≤ length s) × (length s ≤ 837)
   accepted-length =
-      let p = accepted in
+      let p = accepted-fields in
       let most = cart-at-most s (cartCount s) (λ i l. p .cart i l .steps .keeps .1) (cartCount s) (omega arith) in
       (omega arith, omega arith)

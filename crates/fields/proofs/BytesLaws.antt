@@ -11,7 +11,7 @@ use lib.ListN.{length, getD, length-append, List·getD-append}
 use lib.Seq.{getD-append-add, ext-getD}
 use borrow.Author.Tests.{leb-true, le-leb}
 use Rattle.words.specs.Lists.{All, each}
-use Rattle.words.proofs.All.{all-append}
+use Rattle.words.proofs.All.{all-append, all-each}
 use Rattle.words.proofs.Says.{Says}
 use Rattle.fields.specs.Field.{value, fieldChecks}
 use Rattle.fields.specs.Bytes.{bytesOf, Bytes, Stands}
@@ -153,14 +153,28 @@ stands-whole s l h e = ext-getD 0 s l (sym e) (λ k q. ap (λ (n : ℕ). getD s 
 pub whole-stands : (s : List ℕ) → Stands s 0 s
 whole-stands s = record { inside = omega arith; same = λ k l. ap (λ (n : ℕ). getD s n 0) (omega arith) }
 
--- what is written is bytes
+-- each entry is a byte, of lists that are put together
+abbrev IsByte : ℕ → Type 0
+IsByte b = b < 256
 
-pub bytesOf-below : (w v : ℕ) → All (λ b. b < 256) (bytesOf w v)
+pub record AllBytes (l : List ℕ) : Type 0 where
+  pub bytes : All IsByte l
+
+pub append-bytes : {a b : List ℕ} → AllBytes a → AllBytes b → AllBytes (a ++ b)
+append-bytes {a} {b} h k = record { bytes = all-append IsByte a b (h .bytes) (k .bytes) }
+
+pub each-bytes : (n : ℕ) {rule : ℕ → List ℕ} → ((k : ℕ) → AllBytes (rule k)) → AllBytes (each n 0 rule)
+each-bytes n {rule} h = record { bytes = all-each IsByte n 0 rule (λ k _ _. h k .bytes) }
+
+pub bytesOf-bytes : (w v : ℕ) → AllBytes (bytesOf w v)
 unfolding bytesOf
-bytesOf-below zero v = tt
-bytesOf-below (suc w) v = all-append (λ b. b < 256) (bytesOf w (v / 256)) (v % 256 ∷ []) (bytesOf-below w (v / 256)) (omega arith, tt)
+bytesOf-bytes zero v = record { bytes = tt }
+bytesOf-bytes (suc w) v = append-bytes (bytesOf-bytes w (v / 256)) (record { bytes = (omega arith, tt) })
 
-pub below-bytes : (s : List ℕ) → All (λ b. b < 256) s → Bytes s
-below-bytes [] h k = omega arith
-below-bytes (b ∷ s) h zero = h .0
-below-bytes (b ∷ s) h (suc k) = below-bytes s (h .1) k
+pub bytes-below : (s : List ℕ) → AllBytes s → Bytes s
+bytes-below s h = go s (h .bytes)
+  where
+    go : (l : List ℕ) → All IsByte l → Bytes l
+    go [] h k = omega arith
+    go (b ∷ l) h zero = h .0
+    go (b ∷ l) h (suc k) = go l (h .1) k

@@ -9,7 +9,7 @@ use lib.ListN.{length, getD, length-append}
 use Rattle.words.specs.Lists.{each}
 use Rattle.words.proofs.Entries.{length-each}
 use Rattle.fields.specs.Bytes.{bytesOf, Bytes, Stands}
-use Rattle.fields.proofs.BytesLaws.{length-bytesOf, stands-append, stands-first, stands-later, stands-each, each-stands, each-ends, Reads, reads-stand, stands-read, reads-append, append-reads, stands-whole, whole-stands, bytesOf-below, below-bytes}
+use Rattle.fields.proofs.BytesLaws.{length-bytesOf, stands-append, stands-first, stands-later, stands-each, each-stands, each-ends, Reads, reads-stand, stands-read, reads-append, append-reads, stands-whole, whole-stands, AllBytes, append-bytes, each-bytes, bytesOf-bytes, bytes-below}
 use Rattle.sheet.specs.Layout.{zoneCount, followAt, crossAt, cartCountAt, cartCount, cartAt, stepCountAt, stepCount, zoneAt, passingAt, travelAt, endAt}
 use Rattle.sheet.specs.Reading.{sheetOf, sheetDone, readSheet}
 use Rattle.sheet.specs.Valid.{follow, cross, lane, arrival, steps, zone, passing, travel, ValidStep, ValidCart, Valid}
@@ -205,3 +205,46 @@ module _ (s : List ℕ) (sheet : Sheet) (v : Valid sheet) where
         cart = carts-shown body;
         ends = body-at body ∙ all;
       }
+
+pub accepted-written : (s : List ℕ) → Bytes s → readSheet s .outcome .number ≡ 0 → written (readSheet s .sheet) ≡ s
+accepted-written s b e = sym (shows-written s (readSheet s .sheet) b (accepted-shows s e))
+
+pub written-accepted : (sheet : Sheet) → Valid sheet → readSheet (written sheet) ≡ sheetDone sheet
+written-accepted sheet v =
+    let h : Shows (written sheet) sheet = written-shows (written sheet) sheet v refl in
+    passes-accepted (written sheet) (all-pass (written sheet) (shows-passes (written sheet) sheet h v))
+    ∙ ap sheetDone (sym (shows-sheet (written sheet) sheet h v))
+
+-- both together: no other bytes give the sheet, and these give no other
+pub accepted-iff : (s : List ℕ) → Bytes s → (sheet : Sheet) → (readSheet s ≡ sheetDone sheet) ↔ (Valid sheet × (s ≡ written sheet))
+accepted-iff s b sheet =
+    (
+      λ e.
+      let n : readSheet s .outcome .number ≡ 0 = ap (λ (r : SheetRead). r .outcome .number) e in
+      let same : readSheet s .sheet ≡ sheet = ap (λ (r : SheetRead). r .sheet) e in
+      (rw same at (accepted-valid s n), sym (accepted-written s b n) ∙ ap written same),
+      λ h. ap readSheet (h .1) ∙ written-accepted sheet (h .0),
+    )
+
+-- each entry of what is written is a byte
+module _ (sheet : Sheet) where
+  zone-bytes : (z : ℕ) → AllBytes (zoneBytes sheet z)
+  unfolding zoneBytes
+  zone-bytes z = append-bytes (bytesOf-bytes 2 _) (bytesOf-bytes 2 _)
+
+  step-bytes : (i j : ℕ) → AllBytes (stepBytes sheet i j)
+  unfolding stepBytes
+  step-bytes i j = append-bytes (append-bytes (bytesOf-bytes 1 _) (bytesOf-bytes 2 _)) (bytesOf-bytes 2 _)
+
+  cart-bytes : (i : ℕ) → AllBytes (cartBytes sheet i)
+  unfolding cartBytes
+  cart-bytes i =
+      append-bytes (append-bytes (append-bytes (bytesOf-bytes 1 _) (bytesOf-bytes 4 _)) (bytesOf-bytes 1 _)) (each-bytes _ (step-bytes i))
+
+  body-bytes : AllBytes (bodyBytes sheet)
+  unfolding bodyBytes
+  body-bytes = append-bytes (append-bytes (append-bytes (bytesOf-bytes 1 _) (each-bytes _ zone-bytes)) (bytesOf-bytes 1 _)) (each-bytes _ cart-bytes)
+
+  pub written-bytes : Bytes (written sheet)
+  unfolding written
+  written-bytes = bytes-below (written sheet) (append-bytes (append-bytes (bytesOf-bytes 1 _) (bytesOf-bytes 2 _)) body-bytes)

@@ -60,34 +60,42 @@ stands-later {s} {at} {next} a b e h =
           ap (λ (k : ℕ). getD s k 0) (omega arith) ∙ h .same (length a + x) (omega arith) ∙ getD-append-add a b x 0;
     }
 
--- pieces by a rule: they stand one after the other where each stands at its place, and back
+-- pieces by a rule, each followed by the next where it stands: all stand where each stands at its place, and back
 module _ (s : List ℕ) (rule : ℕ → List ℕ) (place : ℕ → ℕ) (m : ℕ)
-    (next : (k : ℕ) → k < m → Stands s (place k) (rule k) → place (k + 1) ≡ place k + length (rule k)) where
-  pub stands-each : (n i : ℕ) → i + n ≡ m → place i ≤ length s → ((k : ℕ) → k < m → Stands s (place k) (rule k)) → Stands s (place i) (each n i rule)
+  (next : (k : ℕ) → k < m → Stands s (place k) (rule k) → place (k + 1) ≡ place k + length (rule k)) where
+  pub stands-each : place 0 ≤ length s → ((k : ℕ) → k < m → Stands s (place k) (rule k)) → Stands s (place 0) (each m 0 rule)
   unfolding each
-  stands-each zero i e p h = record { inside = omega arith; same = λ x l. absurd (omega arith) }
-  stands-each (suc n) i e p h =
-      let here : Stands s (place i) (rule i) = h i (omega arith) in
-      let after : place (i + 1) ≡ place i + length (rule i) = next i (omega arith) here in
-      stands-append here after (stands-each n (i + 1) (omega arith) (omega arith) h)
+  stands-each p h = from m 0 (omega arith) p
+    where
+      from : (n i : ℕ) → i + n ≡ m → place i ≤ length s → Stands s (place i) (each n i rule)
+      from zero i e q = record { inside = omega arith; same = λ x l. absurd (omega arith) }
+      from (suc n) i e q =
+          let here : Stands s (place i) (rule i) = h i (omega arith) in
+          let after : place (i + 1) ≡ place i + length (rule i) = next i (omega arith) here in
+          stands-append here after (from n (i + 1) (omega arith) (omega arith))
 
-  pub each-stands : (n i : ℕ) → i + n ≡ m → Stands s (place i) (each n i rule) → (k : ℕ) → i ≤ k → k < m → Stands s (place k) (rule k)
+  pub each-stands : Stands s (place 0) (each m 0 rule) → (k : ℕ) → k < m → Stands s (place k) (rule k)
   unfolding each
-  each-stands zero i e h k l q = absurd (omega arith)
-  each-stands (suc n) i e h k l q =
-      let here : Stands s (place i) (rule i) = stands-first (rule i) (each n (i + 1) rule) h in
-      let after : Stands s (place (i + 1)) (each n (i + 1) rule) = stands-later (rule i) (each n (i + 1) rule) (next i (omega arith) here) h in
-      elim (decLt i k) [
-        | yes more ↦ each-stands n (i + 1) (omega arith) after k (omega arith) q
-        | no same ↦ let i-is : i ≡ k = omega arith in rw i-is at here
-      ]
+  each-stands h k l = from m 0 (omega arith) h (omega arith)
+    where
+      from : (n i : ℕ) → i + n ≡ m → Stands s (place i) (each n i rule) → i ≤ k → Stands s (place k) (rule k)
+      from zero i e q b = absurd (omega arith)
+      from (suc n) i e q b =
+          let here : Stands s (place i) (rule i) = stands-first (rule i) (each n (i + 1) rule) q in
+          elim (decLt i k) [
+            yes more ↦
+              from n (i + 1) (omega arith) (stands-later (rule i) (each n (i + 1) rule) (next i (omega arith) here) q) (omega arith)
+          | no same ↦ let i-is : i ≡ k = omega arith in rw i-is at here
+          ]
 
-  -- where the pieces end
-  pub each-ends : (n i : ℕ) → i + n ≡ m → ((k : ℕ) → k < m → Stands s (place k) (rule k)) → place m ≡ place i + length (each n i rule)
+  pub each-ends : ((k : ℕ) → k < m → Stands s (place k) (rule k)) → place m ≡ place 0 + length (each m 0 rule)
   unfolding each
-  each-ends zero i e h = let i-is : i ≡ m = omega arith in rw i-is (omega arith)
-  each-ends (suc n) i e h =
-      omega (arith, length-append (rule i) (each n (i + 1) rule), next i (omega arith) (h i (omega arith)), each-ends n (i + 1) (omega arith) h)
+  each-ends h = from m 0 (omega arith)
+    where
+      from : (n i : ℕ) → i + n ≡ m → place m ≡ place i + length (each n i rule)
+      from zero i e = let i-is : i ≡ m = omega arith in rw i-is (omega arith)
+      from (suc n) i e =
+          omega (arith, length-append (rule i) (each n (i + 1) rule), next i (omega arith) (h i (omega arith)), from n (i + 1) (omega arith))
 
 -- a field's value and its bytes
 
@@ -114,6 +122,9 @@ stands-value s at (suc w) v h l =
 pub record Holds (s : List ℕ) (at w : ℕ) (Rule : ℕ → Type 0) : Type 0 where
   pub there : at + w ≤ length s
   pub keeps : Rule (value s at w)
+
+pub holds-as : {s : List ℕ} {at w : ℕ} {Rule Other : ℕ → Type 0} → Holds s at w Rule → Other (value s at w) → Holds s at w Other
+holds-as h k = record { there = h .there; keeps = k }
 
 -- the field is there, and its value is v
 abbrev pub Reads : List ℕ → ℕ → ℕ → ℕ → Type 0

@@ -7,7 +7,7 @@ use native.Mathlib.Decide.{decLt}
 use native.Mathlib.Numerals.{add-one}
 use lib.ListN.{length, getD}
 use Rattle.words.proofs.Entries.{length-entries}
-use Rattle.fields.proofs.BytesLaws.{Holds, Reads}
+use Rattle.fields.proofs.BytesLaws.{holds-as}
 use Rattle.sheet.specs.Layout.{zoneCount, followOf, crossOf, cartCountAt, cartCount, cartAt, laneOf, arrivalOf, stepCount, zoneOf, passingOf, travelOf, endAt}
 use Rattle.sheet.specs.Reading.{table, stepTable, sheetOf, sheetDone, readSheet}
 use Rattle.sheet.specs.Valid.{steps, Shaped, UnusedZero, ValidStep, ValidCart, Valid}
@@ -16,27 +16,28 @@ use Rattle.sheet.proofs.Passing.{ZonePasses, StepPasses, CartPasses, Sh
 use Rattle.sheet.proofs.Tables.{IsStep, table-used, table-unused, step-used, step-unused}
 use Rattle.sheet.proofs.Shows.{ShowsZone, ShowsStep, ShowsCart, Shows}
 
--- where each cart starts, at most: 46 bytes after the one before it
-pub cart-at-most : (s : List ℕ) (m : ℕ) → ((i : ℕ) → i < m → stepCount s i ≤ 8) → (i : ℕ) → i ≤ m → cartAt s i ≤ cartCountAt s + 1 + 46 * i
+-- where the carts end, at most: 46 bytes for each
+pub cart-at-most : (s : List ℕ) (m : ℕ) → ((i : ℕ) → i < m → stepCount s i ≤ 8) → cartAt s m ≤ cartCountAt s + 1 + 46 * m
 unfolding cartAt
-cart-at-most s m h zero l = omega arith
-cart-at-most s m h (suc i) l = omega (arith, cart-at-most s m h i (omega arith), h i (omega arith))
+cart-at-most s zero h = omega arith
+cart-at-most s (suc m) h = omega (arith, cart-at-most s m (λ i l. h i (omega arith)), h m (omega arith))
 
+shaped : (s : List ℕ) → Shaped (sheetOf s)
+unfolding sheetOf
+shaped s =
+    record {
+      follow-24 = length-entries 24 0 _;
+      cross-24 = length-entries 24 0 _;
+      lane-16 = length-entries 16 0 _;
+      arrival-16 = length-entries 16 0 _;
+      steps-16 = length-entries 16 0 _;
+      zone-128 = length-entries 128 0 _;
+      passing-128 = length-entries 128 0 _;
+      travel-128 = length-entries 128 0 _;
+    }
+
+-- the bytes show the sheet that they say
 module _ (s : List ℕ) (p : SheetPasses s) where
-  shaped : Shaped (sheetOf s)
-  unfolding sheetOf
-  shaped =
-      record {
-        follow-24 = length-entries 24 0 _;
-        cross-24 = length-entries 24 0 _;
-        lane-16 = length-entries 16 0 _;
-        arrival-16 = length-entries 16 0 _;
-        steps-16 = length-entries 16 0 _;
-        zone-128 = length-entries 128 0 _;
-        passing-128 = length-entries 128 0 _;
-        travel-128 = length-entries 128 0 _;
-      }
-
   steps-used : (i : ℕ) → i < cartCount s → steps (sheetOf s) i ≡ stepCount s i
   unfolding sheetOf
   steps-used = table-used 16 (cartCount s) (stepCount s) (p .carts .keeps)
@@ -64,9 +65,9 @@ module _ (s : List ℕ) (p : SheetPasses s) where
       let c = p .cart i l in
       let q = c .step j m in
       record {
-        zone-is = record { there = q .zone .there; keeps = sym (step-used s (zoneOf s) i j (omega arith) (omega arith) (l, m)) };
-        passing-is = record { there = q .passing .there; keeps = sym (step-used s (passingOf s) i j (omega arith) (omega arith) (l, m)) };
-        travel-is = record { there = q .travel .there; keeps = sym (step-used s (travelOf s) i j (omega arith) (omega arith) (l, m)) };
+        zone-is = holds-as (q .zone) (sym (step-used s (zoneOf s) i j (omega arith) (omega arith) (l, m)));
+        passing-is = holds-as (q .passing) (sym (step-used s (passingOf s) i j (omega arith) (omega arith) (l, m)));
+        travel-is = holds-as (q .travel) (sym (step-used s (travelOf s) i j (omega arith) (omega arith) (l, m)));
       }
 
   shows-cart : (i : ℕ) → i < cartCount s → ShowsCart s (sheetOf s) i
@@ -74,9 +75,9 @@ module _ (s : List ℕ) (p : SheetPasses s) where
   shows-cart i l =
       let c = p .cart i l in
       record {
-        lane-is = record { there = c .lane .there; keeps = sym (table-used 16 (cartCount s) (laneOf s) (p .carts .keeps) i l) };
-        arrival-is = record { there = c .arrival .there; keeps = sym (table-used 16 (cartCount s) (arrivalOf s) (p .carts .keeps) i l) };
-        steps-is = record { there = c .steps .there; keeps = sym (steps-used i l) };
+        lane-is = holds-as (c .lane) (sym (table-used 16 (cartCount s) (laneOf s) (p .carts .keeps) i l));
+        arrival-is = holds-as (c .arrival) (sym (table-used 16 (cartCount s) (arrivalOf s) (p .carts .keeps) i l));
+        steps-is = holds-as (c .steps) (sym (steps-used i l));
         step = λ j m. shows-step i j l (omega (arith, steps-used i l));
       }
 
@@ -85,19 +86,19 @@ module _ (s : List ℕ) (p : SheetPasses s) where
   shows-zone z l =
       let q = p .zone z l in
       record {
-        follow-is = record { there = q .follow .there; keeps = sym (table-used 24 (zoneCount s) (followOf s) (p .zones .keeps .1) z l) };
-        cross-is = record { there = q .cross .there; keeps = sym (table-used 24 (zoneCount s) (crossOf s) (p .zones .keeps .1) z l) };
+        follow-is = holds-as (q .follow) (sym (table-used 24 (zoneCount s) (followOf s) (p .zones .keeps .1) z l));
+        cross-is = holds-as (q .cross) (sym (table-used 24 (zoneCount s) (crossOf s) (p .zones .keeps .1) z l));
       }
 
-  pub passes-shows : Shows s (sheetOf s)
+  passes-shows : Shows s (sheetOf s)
   unfolding sheetOf
   passes-shows =
       record {
         version-is = p .version;
         total-is = p .total;
-        zones-is = record { there = p .zones .there; keeps = refl };
+        zones-is = holds-as (p .zones) refl;
         zone = shows-zone;
-        carts-is = record { there = p .carts .there; keeps = refl };
+        carts-is = holds-as (p .carts) refl;
         cart = shows-cart;
         ends = p .ends;
       }
@@ -127,8 +128,8 @@ module _ (s : List ℕ) (sheet : Sheet) (p : SheetPasses s) (h : Shows s sheet) 
         steps-most = omega arith;
         step = λ j m. step-valid i j c q m;
         in-lane = λ e below same.
-          let first = h .cart e (omega arith) in
-          omega (arith, p .in-lane i (omega arith) e below (omega arith));
+            let first = h .cart e (omega arith) in
+            omega (arith, p .in-lane i (omega arith) e below (omega arith));
       }
 
   shows-valid : Shaped sheet → UnusedZero sheet → Valid sheet
@@ -148,16 +149,18 @@ module _ (s : List ℕ) (e : readSheet s .outcome .number ≡ 0) where
   accepted-fields : SheetPasses s
   accepted-fields = passing s (accepted-passes s e)
 
+  accepted-read : readSheet s ≡ sheetDone (sheetOf s)
+  accepted-read = passes-accepted s (accepted-passes s e)
+
   pub accepted-shows : Shows s (readSheet s .sheet)
-  accepted-shows = rw (passes-accepted s (accepted-passes s e)) (passes-shows s accepted-fields)
+  accepted-shows = rw accepted-read (passes-shows s accepted-fields)
 
   pub accepted-valid : Valid (readSheet s .sheet)
   accepted-valid =
-      rw (passes-accepted s (accepted-passes s e))
-      (shows-valid s (sheetOf s) accepted-fields (passes-shows s accepted-fields) (shaped s accepted-fields) (unused s accepted-fields))
+      shows-valid s (readSheet s .sheet) accepted-fields accepted-shows (rw accepted-read (shaped s)) (rw accepted-read (unused s accepted-fields))
 
   pub accepted-length : (9 ≤ length s) × (length s ≤ 837)
   accepted-length =
       let p = accepted-fields in
-      let most = cart-at-most s (cartCount s) (λ i l. p .cart i l .steps .keeps .1) (cartCount s) (omega arith) in
+      let most = cart-at-most s (cartCount s) (λ i l. p .cart i l .steps .keeps .1) in
       (omega arith, omega arith)

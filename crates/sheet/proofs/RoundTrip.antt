@@ -10,7 +10,7 @@ use Rattle.words.specs.Lists.{each}
 use Rattle.words.proofs.Entries.{length-each}
 use Rattle.fields.specs.Bytes.{bytesOf, Bytes, Stands}
 use Rattle.fields.proofs.BytesLaws.{length-bytesOf, stands-append, stands-first, stands-later, stands-each, each-stands, each-ends, Reads, reads-stand, stands-read, reads-append, append-reads, stands-whole, whole-stands, AllBytes, append-bytes, each-bytes, bytesOf-bytes, bytes-below}
-use Rattle.sheet.specs.Layout.{zoneCount, followAt, crossAt, cartCountAt, cartCount, cartAt, stepCountAt, stepCount, zoneAt, passingAt, travelAt, endAt}
+use Rattle.sheet.specs.Layout.{lengthAt, zoneCountAt, zoneCount, followAt, crossAt, cartCountAt, cartCount, cartAt, arrivalAt, stepCountAt, stepCount, zoneAt, passingAt, travelAt, endAt}
 use Rattle.sheet.specs.Reading.{sheetOf, sheetDone, readSheet}
 use Rattle.sheet.specs.Valid.{follow, cross, lane, arrival, steps, zone, passing, travel, ValidStep, ValidCart, Valid}
 use Rattle.sheet.specs.Written.{zoneBytes, stepBytes, cartBytes, bodyBytes, written}
@@ -20,7 +20,7 @@ use Rattle.sheet.proofs.Passing.{all-pass, passes-accepted}
 use Rattle.sheet.proofs.Shows.{ShowsZone, ShowsStep, ShowsCart, Shows, shows-passes, shows-sheet}
 use Rattle.sheet.proofs.Accepted.{cart-at-most, accepted-shows, accepted-valid}
 
--- how long each piece is, and so where the next one starts
+-- how long each piece is
 module _ (sheet : Sheet) where
   length-zoneBytes : (z : ℕ) → length (zoneBytes sheet z) ≡ 4
   unfolding zoneBytes
@@ -34,32 +34,39 @@ module _ (sheet : Sheet) where
   unfolding cartBytes
   length-cartBytes i = simp (length-append, length-bytesOf, length-each (steps sheet i) 0 5 (stepBytes sheet i) (length-stepBytes i))
 
+  length-zones : length (each (sheet .zones) 0 (zoneBytes sheet)) ≡ 4 * sheet .zones
+  length-zones = length-each (sheet .zones) 0 4 (zoneBytes sheet) length-zoneBytes
+
   length-bodyBytes : length (bodyBytes sheet) ≡ 2 + 4 * sheet .zones + length (each (sheet .carts) 0 (cartBytes sheet))
   unfolding bodyBytes
-  length-bodyBytes = simp (length-append, length-bytesOf, length-each (sheet .zones) 0 4 (zoneBytes sheet) length-zoneBytes) (omega arith)
+  length-bodyBytes = simp (length-append, length-bytesOf, length-zones) (omega arith)
 
   length-written : length (written sheet) ≡ 3 + length (bodyBytes sheet)
   unfolding written
   length-written = simp (length-append, length-bytesOf)
 
-  module _ (s : List ℕ) where
-    step-next : (i j : ℕ) → zoneAt s i (j + 1) ≡ zoneAt s i j + length (stepBytes sheet i j)
-    step-next i j = omega (arith, length-stepBytes i j)
+-- where the next piece starts, and where the body ends
+module _ (s : List ℕ) (sheet : Sheet) where
+  zone-next : (z : ℕ) → followAt (z + 1) ≡ followAt z + length (zoneBytes sheet z)
+  zone-next z = omega (arith, length-zoneBytes sheet z)
 
-    zone-next : (z : ℕ) → followAt (z + 1) ≡ followAt z + length (zoneBytes sheet z)
-    zone-next z = omega (arith, length-zoneBytes z)
+  step-next : (i j : ℕ) → zoneAt s i (j + 1) ≡ zoneAt s i j + length (stepBytes sheet i j)
+  step-next i j = omega (arith, length-stepBytes sheet i j)
 
-    cart-next : (i : ℕ) → Reads s (stepCountAt s i) 1 (steps sheet i) → cartAt s (i + 1) ≡ cartAt s i + length (cartBytes sheet i)
-    unfolding cartAt
-    cart-next i r = rw (add-one i) (omega (arith, length-cartBytes i))
+  cart-next : (i : ℕ) → Reads s (stepCountAt s i) 1 (steps sheet i) → cartAt s (i + 1) ≡ cartAt s i + length (cartBytes sheet i)
+  unfolding cartAt
+  cart-next i r = rw (add-one i) (omega (arith, length-cartBytes sheet i))
 
-    -- where the carts end, each at its place, the body ends
-    body-ends : zoneCount s ≡ sheet .zones
-      → ((i : ℕ) → i < sheet .carts → Stands s (cartAt s i) (cartBytes sheet i) → cartAt s (i + 1) ≡ cartAt s i + length (cartBytes sheet i))
-      → ((i : ℕ) → i < sheet .carts → Stands s (cartAt s i) (cartBytes sheet i)) → cartAt s (sheet .carts) ≡ 3 + length (bodyBytes sheet)
-    unfolding cartAt
-    body-ends n next stand =
-        omega (arith, length-bodyBytes, each-ends s (cartBytes sheet) (cartAt s) (sheet .carts) next (sheet .carts) 0 (omega arith) stand)
+  abbrev CartsStand : Type 0
+  CartsStand = (i : ℕ) → i < sheet .carts → Stands s (cartAt s i) (cartBytes sheet i)
+
+  abbrev CartsFollow : Type 0
+  CartsFollow = (i : ℕ) → i < sheet .carts → Stands s (cartAt s i) (cartBytes sheet i) → cartAt s (i + 1) ≡ cartAt s i + length (cartBytes sheet i)
+
+  body-ends : CartsFollow → CartsStand → zoneCount s ≡ sheet .zones → cartCount s ≡ sheet .carts → endAt s ≡ 3 + length (bodyBytes sheet)
+  unfolding cartAt
+  body-ends next stand n m =
+      rw m (omega (arith, length-bodyBytes sheet, each-ends s (cartBytes sheet) (cartAt s) (sheet .carts) next stand))
 
 -- from what the bytes show to the bytes
 module _ (s : List ℕ) (sheet : Sheet) (b : Bytes s) where
@@ -82,14 +89,14 @@ module _ (s : List ℕ) (sheet : Sheet) (b : Bytes s) where
       (reads-append 1 _ b (q .lane-is) refl
       (reads-append 4 _ b (q .arrival-is) (omega arith)
       (reads-append 1 _ b (q .steps-is) (omega arith)
-      (stands-each s (stepBytes sheet i) (zoneAt s i) (steps sheet i) (λ j _ _. step-next sheet s i j) (steps sheet i) 0 (omega arith) (omega arith)
+      (stands-each s (stepBytes sheet i) (zoneAt s i) (steps sheet i) (λ j _ _. step-next s sheet i j) (omega arith)
       (λ j l. step-stands i j (q .step j l))))))
 
   module _ (h : Shows s sheet) where
-    carts-next : (i : ℕ) → i < sheet .carts → Stands s (cartAt s i) (cartBytes sheet i) → cartAt s (i + 1) ≡ cartAt s i + length (cartBytes sheet i)
-    carts-next i l _ = cart-next sheet s i (h .cart i l .steps-is)
+    carts-follow : CartsFollow s sheet
+    carts-follow i l _ = cart-next s sheet i (h .cart i l .steps-is)
 
-    carts-stand : (i : ℕ) → i < sheet .carts → Stands s (cartAt s i) (cartBytes sheet i)
+    carts-stand : CartsStand s sheet
     carts-stand i l = cart-stands i (h .cart i l)
 
     body-stands : Stands s 3 (bodyBytes sheet)
@@ -98,15 +105,13 @@ module _ (s : List ℕ) (sheet : Sheet) (b : Bytes s) where
         simp append-assoc
         (reads-append 1 _ b (h .zones-is) (omega arith)
         (stands-append
-        (stands-each s (zoneBytes sheet) followAt (sheet .zones) (λ z _ _. zone-next sheet s z) (sheet .zones) 0 (omega arith) (omega arith)
-        (λ z l. zone-stands z (h .zone z l)))
-        (omega (arith, length-each (sheet .zones) 0 4 (zoneBytes sheet) (length-zoneBytes sheet)))
+        (stands-each s (zoneBytes sheet) followAt (sheet .zones) (λ z _ _. zone-next s sheet z) (omega arith) (λ z l. zone-stands z (h .zone z l)))
+        (omega (arith, length-zones sheet))
         (reads-append 1 _ b (h .carts-is) refl
-        (stands-each s (cartBytes sheet) (cartAt s) (sheet .carts) carts-next (sheet .carts) 0 (omega arith) (omega arith) carts-stand))))
+        (stands-each s (cartBytes sheet) (cartAt s) (sheet .carts) carts-follow (omega arith) carts-stand))))
 
     body-length : 3 + length (bodyBytes sheet) ≡ length s
-    body-length =
-        sym (body-ends sheet s (h .zones-is .keeps) carts-next carts-stand) ∙ ap (cartAt s) (sym (h .carts-is .keeps)) ∙ h .ends
+    body-length = sym (body-ends s sheet carts-follow carts-stand (h .zones-is .keeps) (h .carts-is .keeps)) ∙ h .ends
 
     shows-written : s ≡ written sheet
     unfolding written
@@ -122,88 +127,91 @@ module _ (s : List ℕ) (sheet : Sheet) (v : Valid sheet) where
   zone-shown : (z : ℕ) → z < sheet .zones → Stands s (followAt z) (zoneBytes sheet z) → ShowsZone s sheet z
   unfolding zoneBytes
   zone-shown z l h =
-      let (first, later) = append-reads 2 (follow sheet z) (crossAt z) refl (omega (arith, v .follow-most z l)) h in
-      record { follow-is = first; cross-is = stands-read 2 (cross sheet z) (omega (arith, v .cross-most z l)) later }
+      let (follow-is, later) = append-reads 2 (follow sheet z) (crossAt z) refl (omega (arith, v .follow-most z l)) h in
+      record { follow-is = follow-is; cross-is = stands-read 2 (cross sheet z) (omega (arith, v .cross-most z l)) later }
 
   step-shown : (i j : ℕ) → ValidStep sheet i j → Stands s (zoneAt s i j) (stepBytes sheet i j) → ShowsStep s sheet i j
   unfolding stepBytes
   step-shown i j w h =
-      let (first, h1) = append-reads 1 (zone sheet i j) (passingAt s i j) refl (omega arith) (rw append-assoc at h) in
-      let (second, h2) = append-reads 2 (passing sheet i j) (travelAt s i j) (omega arith) (omega arith) h1 in
-      record { zone-is = first; passing-is = second; travel-is = stands-read 2 (travel sheet i j) (omega arith) h2 }
+      let (zone-is, later) = append-reads 1 (zone sheet i j) (passingAt s i j) refl (omega arith) (rw append-assoc at h) in
+      let (passing-is, last) = append-reads 2 (passing sheet i j) (travelAt s i j) (omega arith) (omega arith) later in
+      record { zone-is = zone-is; passing-is = passing-is; travel-is = stands-read 2 (travel sheet i j) (omega arith) last }
 
   cart-shown : (i : ℕ) → ValidCart sheet i → Stands s (cartAt s i) (cartBytes sheet i) → ShowsCart s sheet i
   unfolding cartBytes
   cart-shown i w h =
-      let (first, h1) = append-reads 1 (lane sheet i) (cartAt s i + 1) refl (omega arith) (simp append-assoc at h) in
-      let (second, h2) = append-reads 4 (arrival sheet i) (stepCountAt s i) (omega arith) (omega arith) h1 in
-      let (third, h3) = append-reads 1 (steps sheet i) (zoneAt s i 0) (omega arith) (omega arith) h2 in
+      let (lane-is, later) = append-reads 1 (lane sheet i) (arrivalAt s i) refl (omega arith) (simp append-assoc at h) in
+      let (arrival-is, last) = append-reads 4 (arrival sheet i) (stepCountAt s i) (omega arith) (omega arith) later in
+      let (steps-is, route) = append-reads 1 (steps sheet i) (zoneAt s i 0) (omega arith) (omega arith) last in
       record {
-        lane-is = first;
-        arrival-is = second;
-        steps-is = third;
+        lane-is = lane-is;
+        arrival-is = arrival-is;
+        steps-is = steps-is;
         step = λ j l.
-          step-shown i j (w .step j l)
-          (each-stands s (stepBytes sheet i) (zoneAt s i) (steps sheet i) (λ k _ _. step-next sheet s i k) (steps sheet i) 0 (omega arith) h3 j (omega arith) l);
+            step-shown i j (w .step j l)
+            (each-stands s (stepBytes sheet i) (zoneAt s i) (steps sheet i) (λ k _ _. step-next s sheet i k) route j l);
       }
 
-  carts-follow : (i : ℕ) → i < sheet .carts → Stands s (cartAt s i) (cartBytes sheet i) → cartAt s (i + 1) ≡ cartAt s i + length (cartBytes sheet i)
-  carts-follow i l h = cart-next sheet s i (cart-shown i (v .cart i l) h .steps-is)
+  carts-next : CartsFollow s sheet
+  carts-next i l h = cart-next s sheet i (cart-shown i (v .cart i l) h .steps-is)
 
   module _ (h : Stands s 3 (bodyBytes sheet)) where
-    abbrev later : List ℕ
-    later = bytesOf 1 (sheet .carts) ++ each (sheet .carts) 0 (cartBytes sheet)
+    abbrev zonesBytes : List ℕ
+    zonesBytes = each (sheet .zones) 0 (zoneBytes sheet)
 
-    zones-read : Reads s 3 1 (sheet .zones) × Stands s (followAt 0) (each (sheet .zones) 0 (zoneBytes sheet) ++ later)
+    abbrev cartsBytes : List ℕ
+    cartsBytes = each (sheet .carts) 0 (cartBytes sheet)
+
+    zones-read : Reads s zoneCountAt 1 (sheet .zones) × Stands s (followAt 0) (zonesBytes ++ (bytesOf 1 (sheet .carts) ++ cartsBytes))
     unfolding bodyBytes
     zones-read = append-reads 1 (sheet .zones) (followAt 0) (omega arith) (omega arith) (simp append-assoc at h)
 
     zones-shown : (z : ℕ) → z < sheet .zones → ShowsZone s sheet z
     zones-shown z l =
         zone-shown z l
-        (each-stands s (zoneBytes sheet) followAt (sheet .zones) (λ k _ _. zone-next sheet s k) (sheet .zones) 0 (omega arith)
-        (stands-first (each (sheet .zones) 0 (zoneBytes sheet)) later (zones-read .1)) z (omega arith) l)
+        (each-stands s (zoneBytes sheet) followAt (sheet .zones) (λ k _ _. zone-next s sheet k) (stands-first zonesBytes _ (zones-read .1)) z l)
 
-    carts-read : Reads s (cartCountAt s) 1 (sheet .carts) × Stands s (cartAt s 0) (each (sheet .carts) 0 (cartBytes sheet))
+    carts-read : Reads s (cartCountAt s) 1 (sheet .carts) × Stands s (cartAt s 0) cartsBytes
     unfolding cartAt
     carts-read =
         let n = zones-read .0 in
         append-reads 1 (sheet .carts) (cartAt s 0) refl (omega arith)
-        (stands-later (each (sheet .zones) 0 (zoneBytes sheet)) later
-        (omega (arith, length-each (sheet .zones) 0 4 (zoneBytes sheet) (length-zoneBytes sheet))) (zones-read .1))
+        (stands-later zonesBytes _ (omega (arith, length-zones sheet)) (zones-read .1))
 
-    carts-stand-at : (i : ℕ) → i < sheet .carts → Stands s (cartAt s i) (cartBytes sheet i)
-    carts-stand-at i l =
-        each-stands s (cartBytes sheet) (cartAt s) (sheet .carts) carts-follow (sheet .carts) 0 (omega arith) (carts-read .1) i (omega arith) l
+    carts-at : CartsStand s sheet
+    carts-at = each-stands s (cartBytes sheet) (cartAt s) (sheet .carts) carts-next (carts-read .1)
 
     carts-shown : (i : ℕ) → i < sheet .carts → ShowsCart s sheet i
-    carts-shown i l = cart-shown i (v .cart i l) (carts-stand-at i l)
+    carts-shown i l = cart-shown i (v .cart i l) (carts-at i l)
 
-    body-at : endAt s ≡ 3 + length (bodyBytes sheet)
-    body-at = ap (cartAt s) (carts-read .0 .keeps) ∙ body-ends sheet s (zones-read .0 .keeps) carts-follow carts-stand-at
+    body-end : endAt s ≡ 3 + length (bodyBytes sheet)
+    body-end = body-ends s sheet carts-next carts-at (zones-read .0 .keeps) (carts-read .0 .keeps)
 
-    body-most : 3 + length (bodyBytes sheet) ≤ 837
-    body-most =
+    end-most : endAt s ≤ 837
+    end-most =
         let n = zones-read .0 in
         let m = carts-read .0 in
-        omega (arith, body-at,
-        cart-at-most s (cartCount s) (λ i l. let c = carts-shown i (omega arith) in omega (arith, v .cart i (omega arith) .steps-most)) (cartCount s) (omega arith))
+        let few : (i : ℕ) → i < cartCount s → stepCount s i ≤ 8
+            = λ i l. let c = carts-shown i (omega arith) in omega (arith, v .cart i (omega arith) .steps-most) in
+        omega (arith, cart-at-most s (cartCount s) few)
 
   written-shows : s ≡ written sheet → Shows s sheet
   unfolding written
   written-shows e =
-      let (first, h1) = append-reads 1 1 1 refl (omega arith) (simp append-assoc at (subst (λ (l : List ℕ). Stands s 0 l) e (whole-stands s))) in
-      let body : Stands s 3 (bodyBytes sheet) = stands-later (bytesOf 2 (3 + length (bodyBytes sheet))) (bodyBytes sheet) (rw length-bytesOf) h1 in
-      let all : 3 + length (bodyBytes sheet) ≡ length s = sym (ap length e ∙ length-written sheet) in
-      let (second, _) = append-reads 2 (3 + length (bodyBytes sheet)) 3 refl (omega (arith, body-most body)) h1 in
+      let whole : Stands s 0 (written sheet) = subst (λ (l : List ℕ). Stands s 0 l) e (whole-stands s) in
+      let total = 3 + length (bodyBytes sheet) in
+      let (version-is, later) = append-reads 1 1 lengthAt refl (omega arith) (simp append-assoc at whole) in
+      let body : Stands s 3 (bodyBytes sheet) = stands-later (bytesOf 2 total) (bodyBytes sheet) (rw length-bytesOf) later in
+      let (total-is, _) = append-reads 2 total 3 refl (omega (arith, body-end body, end-most body)) later in
+      let all : total ≡ length s = sym (ap length e ∙ length-written sheet) in
       record {
-        version-is = first;
-        total-is = rw all at second;
+        version-is = version-is;
+        total-is = rw all at total-is;
         zones-is = zones-read body .0;
         zone = zones-shown body;
         carts-is = carts-read body .0;
         cart = carts-shown body;
-        ends = body-at body ∙ all;
+        ends = body-end body ∙ all;
       }
 
 pub accepted-written : (s : List ℕ) → Bytes s → readSheet s .outcome .number ≡ 0 → written (readSheet s .sheet) ≡ s
@@ -217,14 +225,13 @@ written-accepted sheet v =
 
 -- both together: no other bytes give the sheet, and these give no other
 pub accepted-iff : (s : List ℕ) → Bytes s → (sheet : Sheet) → (readSheet s ≡ sheetDone sheet) ↔ (Valid sheet × (s ≡ written sheet))
-accepted-iff s b sheet =
-    (
-      λ e.
+accepted-iff s b sheet = (
+  λ e.
       let n : readSheet s .outcome .number ≡ 0 = ap (λ (r : SheetRead). r .outcome .number) e in
       let same : readSheet s .sheet ≡ sheet = ap (λ (r : SheetRead). r .sheet) e in
       (rw same at (accepted-valid s n), sym (accepted-written s b n) ∙ ap written same),
-      λ h. ap readSheet (h .1) ∙ written-accepted sheet (h .0),
-    )
+  λ h. ap readSheet (h .1) ∙ written-accepted sheet (h .0),
+)
 
 -- each entry of what is written is a byte
 module _ (sheet : Sheet) where

@@ -5,7 +5,7 @@ use mathlib.Core.List.{List}
 use native.Mathlib.Omega.{arith}
 use native.Mathlib.Decide.{decLt}
 use lib.ListN.{length, getD}
-use Rattle.fields.proofs.BytesLaws.{Holds, Reads}
+use Rattle.fields.proofs.BytesLaws.{Reads, holds-as}
 use Rattle.sheet.specs.Layout.{versionAt, lengthAt, zoneCountAt, zoneCount, followAt, followOf, crossAt, crossOf, cartCountAt, cartCount, laneAt, laneOf, arrivalAt, arrivalOf, stepCountAt, stepCount, zoneAt, zoneOf, passingAt, passingOf, travelAt, travelOf, endAt}
 use Rattle.sheet.specs.Reading.{table, stepTable, sheetOf}
 use Rattle.sheet.specs.Valid.{follow, cross, lane, arrival, steps, zone, passing, travel, Shaped, UnusedZero, ValidStep, ValidCart, Valid}
@@ -43,26 +43,26 @@ module _ (s : List ℕ) (sheet : Sheet) (h : Shows s sheet) (v : Valid sheet) wh
       let q = c .step j l in
       let p = w .step j l in
       record {
-        zone = record { there = q .zone-is .there; keeps = omega arith };
+        zone = holds-as (q .zone-is) (omega arith);
         once = λ e below same. let first = c .step e (omega arith) in p .once e below (omega arith);
-        passing = record { there = q .passing-is .there; keeps = omega arith };
-        travel = record { there = q .travel-is .there; keeps = (omega arith, λ last. omega (arith, p .travel-last (omega arith))) };
+        passing = holds-as (q .passing-is) (omega arith);
+        travel = holds-as (q .travel-is) (omega arith, λ last. omega (arith, p .travel-last (omega arith)));
       }
 
   cart-passes : (i : ℕ) → ShowsCart s sheet i → ValidCart sheet i → CartPasses s i
   cart-passes i c w =
       record {
-        lane = record { there = c .lane-is .there; keeps = omega arith };
-        arrival = record { there = c .arrival-is .there; keeps = omega arith };
-        steps = record { there = c .steps-is .there; keeps = (omega arith, omega arith) };
+        lane = holds-as (c .lane-is) (omega arith);
+        arrival = holds-as (c .arrival-is) (omega arith);
+        steps = holds-as (c .steps-is) (omega arith, omega arith);
         step = λ j l. step-passes i j c w (omega arith);
       }
 
   zone-passes : (z : ℕ) → ShowsZone s sheet z → z < sheet .zones → ZonePasses s z
   zone-passes z q l =
       record {
-        follow = record { there = q .follow-is .there; keeps = omega (arith, v .follow-most z l) };
-        cross = record { there = q .cross-is .there; keeps = omega (arith, v .cross-most z l) };
+        follow = holds-as (q .follow-is) (omega (arith, v .follow-most z l));
+        cross = holds-as (q .cross-is) (omega (arith, v .cross-most z l));
       }
 
   pub shows-passes : SheetPasses s
@@ -70,31 +70,31 @@ module _ (s : List ℕ) (sheet : Sheet) (h : Shows s sheet) (v : Valid sheet) wh
       record {
         version = h .version-is;
         total = h .total-is;
-        zones = record { there = h .zones-is .there; keeps = (omega arith, omega arith) };
+        zones = holds-as (h .zones-is) (omega arith, omega arith);
         zone = λ z l. let below : z < sheet .zones = omega arith in zone-passes z (h .zone z below) below;
-        carts = record { there = h .carts-is .there; keeps = omega arith };
+        carts = holds-as (h .carts-is) (omega arith);
         cart = λ i l. let below : i < sheet .carts = omega arith in cart-passes i (h .cart i below) (v .cart i below);
         ends = h .ends;
         in-lane = λ i l e below same.
-          let later = h .cart i (omega arith) in
-          let first = h .cart e (omega arith) in
-          omega (arith, v .cart i (omega arith) .in-lane e below (omega arith));
+            let later = h .cart i (omega arith) in
+            let first = h .cart e (omega arith) in
+            omega (arith, v .cart i (omega arith) .in-lane e below (omega arith));
       }
 
   -- past the steps of the carts
   past-steps : (i j : ℕ) → (IsStep s i j → ⊥) → steps sheet i ≤ j
   past-steps i j n =
       elim (decLt i (sheet .carts)) [
-        yes l ↦
-          elim (decLt j (steps sheet i)) [
-            yes m ↦ let c = h .cart i l in absurd (n (omega arith, omega arith))
-          | no m ↦ omega arith
-          ]
-      | no m ↦ omega (arith, v .unused .no-steps i (omega arith))
+        | yes l ↦
+            elim (decLt j (steps sheet i)) [
+              | yes m ↦ let c = h .cart i l in absurd (n (omega arith, omega arith))
+              | no m ↦ omega arith
+            ]
+        | no m ↦ omega (arith, v .unused .no-steps i (omega arith))
       ]
 
   step-part : (l : List ℕ) (rule : ℕ → ℕ → ℕ) → length l ≡ 128 → ((i j : ℕ) → ShowsStep s sheet i j → rule i j ≡ getD l (8 * i + j) 0)
-    → ((i j : ℕ) → j < 8 → steps sheet i ≤ j → getD l (8 * i + j) 0 ≡ 0) → l ≡ stepTable s rule
+      → ((i j : ℕ) → j < 8 → steps sheet i ≤ j → getD l (8 * i + j) 0 ≡ 0) → l ≡ stepTable s rule
   step-part l rule e same none =
       steps-are s rule l e
       (λ i j used. let c = h .cart i (omega arith) in sym (same i j (c .step j (omega arith))))
@@ -103,17 +103,19 @@ module _ (s : List ℕ) (sheet : Sheet) (h : Shows s sheet) (v : Valid sheet) wh
   pub shows-sheet : sheet ≡ sheetOf s
   unfolding sheetOf
   shows-sheet =
+      let n = h .zones-is .keeps in
+      let m = h .carts-is .keeps in
       let shape = v .shaped in
       let none = v .unused in
       λ x.
       record {
-        zones = sym (h .zones-is .keeps) x;
-        follow = table-is 24 (zoneCount s) (followOf s) (h .zones-is .keeps) (h .zone) (sheet .follow) (shape .follow-24) (λ z q. q .follow-is .keeps) (none .no-follow) x;
-        cross = table-is 24 (zoneCount s) (crossOf s) (h .zones-is .keeps) (h .zone) (sheet .cross) (shape .cross-24) (λ z q. q .cross-is .keeps) (none .no-cross) x;
-        carts = sym (h .carts-is .keeps) x;
-        lane = table-is 16 (cartCount s) (laneOf s) (h .carts-is .keeps) (h .cart) (sheet .lane) (shape .lane-16) (λ i q. q .lane-is .keeps) (none .no-lane) x;
-        arrival = table-is 16 (cartCount s) (arrivalOf s) (h .carts-is .keeps) (h .cart) (sheet .arrival) (shape .arrival-16) (λ i q. q .arrival-is .keeps) (none .no-arrival) x;
-        steps = table-is 16 (cartCount s) (stepCount s) (h .carts-is .keeps) (h .cart) (sheet .steps) (shape .steps-16) (λ i q. q .steps-is .keeps) (none .no-steps) x;
+        zones = sym n x;
+        follow = table-is 24 (zoneCount s) (followOf s) n (h .zone) (sheet .follow) (shape .follow-24) (λ z q. q .follow-is .keeps) (none .no-follow) x;
+        cross = table-is 24 (zoneCount s) (crossOf s) n (h .zone) (sheet .cross) (shape .cross-24) (λ z q. q .cross-is .keeps) (none .no-cross) x;
+        carts = sym m x;
+        lane = table-is 16 (cartCount s) (laneOf s) m (h .cart) (sheet .lane) (shape .lane-16) (λ i q. q .lane-is .keeps) (none .no-lane) x;
+        arrival = table-is 16 (cartCount s) (arrivalOf s) m (h .cart) (sheet .arrival) (shape .arrival-16) (λ i q. q .arrival-is .keeps) (none .no-arrival) x;
+        steps = table-is 16 (cartCount s) (stepCount s) m (h .cart) (sheet .steps) (shape .steps-16) (λ i q. q .steps-is .keeps) (none .no-steps) x;
         zone = step-part (sheet .zone) (zoneOf s) (shape .zone-128) (λ i j q. q .zone-is .keeps) (none .no-zone) x;
         passing = step-part (sheet .passing) (passingOf s) (shape .passing-128) (λ i j q. q .passing-is .keeps) (none .no-passing) x;
         travel = step-part (sheet .travel) (travelOf s) (shape .travel-128) (λ i j q. q .travel-is .keeps) (none .no-travel) x;

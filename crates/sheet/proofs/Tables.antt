@@ -28,12 +28,12 @@ module _ (width : ℕ) {test : ℕ → Bool} {Used : ℕ → Type 0} (says : (k 
   unused-entry : (k : ℕ) → (Used k → ⊥) → getD (entries width 0 entry) k 0 ≡ 0
   unused-entry k n =
       elim (decLt k width) [
-        yes l ↦ entry-tested k false l (not-eq-not {b = false} .0 (λ t. n (says k .0 t)))
-      | no m ↦ List·getD-eq-default (entries width 0 entry) 0 (omega (arith, length-entries width 0 entry))
+        | yes l ↦ entry-tested k false l (not-eq-not {b = false} .0 (λ t. n (says k .0 t)))
+        | no m ↦ List·getD-eq-default (entries width 0 entry) 0 (omega (arith, length-entries width 0 entry))
       ]
 
   entries-are : (l : List ℕ) → length l ≡ width → ((k : ℕ) → k < width → Used k → getD l k 0 ≡ rule k)
-    → ((k : ℕ) → (Used k → ⊥) → getD l k 0 ≡ 0) → l ≡ entries width 0 entry
+      → ((k : ℕ) → (Used k → ⊥) → getD l k 0 ≡ 0) → l ≡ entries width 0 entry
   entries-are l e h n = entries-is l width entry e (λ k below. here k below (test k) refl)
     where
       here : (k : ℕ) → k < width → (b : Bool) → test k ≡ b → getD l k 0 ≡ pick b (rule k) 0
@@ -53,13 +53,19 @@ module _ (width n : ℕ) (rule : ℕ → ℕ) where
 
   -- m is n, as the sheet has it; `Shown` is what is known of each used entry
   pub table-is : {m : ℕ} {Shown : ℕ → Type 0} → n ≡ m → ((k : ℕ) → k < m → Shown k) → (l : List ℕ) → length l ≡ width
-    → ((k : ℕ) → Shown k → rule k ≡ getD l k 0) → ((k : ℕ) → m ≤ k → getD l k 0 ≡ 0) → l ≡ table width n rule
+      → ((k : ℕ) → Shown k → rule k ≡ getD l k 0) → ((k : ℕ) → m ≤ k → getD l k 0 ≡ 0) → l ≡ table width n rule
   table-is same shown l e h z =
       entries-are width is-first rule l e (λ k _ u. sym (h k (shown k (omega arith)))) (λ k u. z k (omega arith))
 
 -- entry 8 * i + j is used where cart i has a step j
 abbrev pub IsStep : List ℕ → ℕ → ℕ → Type 0
 IsStep s i j = (i < cartCount s) × (j < stepCount s i)
+
+row : (i j : ℕ) → j < 8 → (8 * i + j) / 8 ≡ i
+row i j l = omega arith
+
+column : (i j : ℕ) → j < 8 → (8 * i + j) % 8 ≡ j
+column i j l = omega arith
 
 module _ (s : List ℕ) (rule : ℕ → ℕ → ℕ) where
   is-step : (x : ℕ) → (ltb (x / 8) (cartCount s) && ltb (x % 8) (stepCount s (x / 8)) ≡ true) ↔ IsStep s (x / 8) (x % 8)
@@ -70,18 +76,14 @@ module _ (s : List ℕ) (rule : ℕ → ℕ → ℕ) where
 
   pub step-used : (i j : ℕ) → i < 16 → j < 8 → IsStep s i j → getD (stepTable s rule) (8 * i + j) 0 ≡ rule i j
   step-used i j h l u =
-      let row : (8 * i + j) / 8 ≡ i = omega arith in
-      let column : (8 * i + j) % 8 ≡ j = omega arith in
-      rw (row, column) at (used-entry 128 is-step stepRule (8 * i + j) (omega arith) (rw (row, column) u))
+      rw (row i j l, column i j l) at
+      (used-entry 128 is-step stepRule (8 * i + j) (omega arith) (rw (row i j l, column i j l) u))
 
   pub step-unused : (i j : ℕ) → j < 8 → (IsStep s i j → ⊥) → getD (stepTable s rule) (8 * i + j) 0 ≡ 0
-  step-unused i j l n =
-      let row : (8 * i + j) / 8 ≡ i = omega arith in
-      let column : (8 * i + j) % 8 ≡ j = omega arith in
-      unused-entry 128 is-step stepRule (8 * i + j) (rw (row, column) n)
+  step-unused i j l n = unused-entry 128 is-step stepRule (8 * i + j) (rw (row i j l, column i j l) n)
 
   pub steps-are : (l : List ℕ) → length l ≡ 128 → ((i j : ℕ) → IsStep s i j → getD l (8 * i + j) 0 ≡ rule i j)
-    → ((i j : ℕ) → j < 8 → (IsStep s i j → ⊥) → getD l (8 * i + j) 0 ≡ 0) → l ≡ stepTable s rule
+      → ((i j : ℕ) → j < 8 → (IsStep s i j → ⊥) → getD l (8 * i + j) 0 ≡ 0) → l ≡ stepTable s rule
   steps-are l e h z =
       entries-are 128 is-step stepRule l e
       (λ k _ u. ap (λ (x : ℕ). getD l x 0) (omega arith) ∙ h (k / 8) (k % 8) u)

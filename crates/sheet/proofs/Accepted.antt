@@ -1,18 +1,16 @@
 -- What an accepted sheet is: the bytes show it, so that what the checks say of the bytes holds of it.
 use Prim.Native.Nat.{ℕ, zero, suc, _+_, _*_, _≤_, _<_}
-use mathlib.Core.Path.{_≡_, refl, sym, ap, _∙_}
+use mathlib.Core.Path.{_≡_, refl, sym}
 use mathlib.Core.List.{List}
 use native.Mathlib.Omega.{arith}
-use native.Mathlib.Decide.{decLt}
-use native.Mathlib.Numerals.{add-one}
-use lib.ListN.{length, getD}
+use lib.ListN.{length}
 use Rattle.words.proofs.Entries.{length-entries}
 use Rattle.fields.proofs.BytesLaws.{holds-as}
-use Rattle.sheet.specs.Layout.{zoneCount, followOf, crossOf, cartCountAt, cartCount, cartAt, laneOf, arrivalOf, stepCount, zoneOf, passingOf, travelOf, endAt}
-use Rattle.sheet.specs.Reading.{table, stepTable, sheetOf, sheetDone, readSheet}
+use Rattle.sheet.specs.Layout.{zoneCount, followOf, crossOf, cartCountAt, cartCount, cartAt, laneOf, arrivalOf, stepCount, zoneOf, passingOf, travelOf}
+use Rattle.sheet.specs.Reading.{sheetOf, sheetDone, readSheet}
 use Rattle.sheet.specs.Valid.{steps, Shaped, UnusedZero, ValidStep, ValidCart, Valid}
 use Rattle.sheet.specs.declared.Sheet.{Sheet}
-use Rattle.sheet.proofs.Passing.{ZonePasses, StepPasses, CartPasses, SheetPasses, passing, accepted-passes, passes-accepted}
+use Rattle.sheet.proofs.Passing.{CartPasses, SheetPasses, passing, accepted-passes, passes-accepted}
 use Rattle.sheet.proofs.Tables.{IsStep, table-used, table-unused, step-used, step-unused}
 use Rattle.sheet.proofs.Shows.{ShowsZone, ShowsStep, ShowsCart, Shows}
 

@@ -1,17 +1,16 @@
 -- What it says that every check of a sheet passes, field by field, and back: each list of checks is read part by part, both ways at once.
 use Prim.Native.Nat.{ℕ, suc, _+_, _≤_, _<_}
 use mathlib.Core.Path.{_≡_, refl, ap}
-use mathlib.Core.Bool.{Bool, true, false, not, _&&_}
-use mathlib.Core.List.{List, [], _∷_, _++_}
-use mathlib.Core.Logic.{_↔_, Iff·trans, _⊎_, inl, inr, ⊎-elim}
+use mathlib.Core.Bool.{Bool, true, false}
+use mathlib.Core.List.{List}
+use mathlib.Core.Logic.{_↔_, Iff·trans, inl, inr}
 use native.Mathlib.Omega.{arith}
 use native.Mathlib.Decide.{decLt}
 use lib.ListN.{length}
-use lib.Dec.{leb, ltb, eqb}
+use lib.Dec.{leb, eqb}
 use borrow.Author.Tests.{eqb-true, eqb-false}
-use Rattle.words.specs.Lists.{pick, each}
-use Rattle.words.specs.Checks.{Check, check, AllPass, Numbered, firstFailing}
-use Rattle.words.proofs.All.{all-append, all-each}
+use Rattle.words.specs.Lists.{pick}
+use Rattle.words.specs.Checks.{AllPass, Numbered}
 use Rattle.words.proofs.Says.{Says, says-as, check-says, _then_, each-says}
 use Rattle.words.proofs.Tests.{leb-says, ltb-says, eqb-says, and-says, none-says}
 use Rattle.words.proofs.First.{pass-answers, fails-refuses, pass-or-fail, numbered-fails}
@@ -21,6 +20,7 @@ use Rattle.sheet.specs.Checks.{field, mostTravel, zoneChecks, stepChecks
 use Rattle.sheet.specs.Reading.{sheetRefused, sheetDone, sheetOf, readSheet}
 use Rattle.sheet.specs.declared.SheetRead.{SheetRead}
 
+-- each field is there and in its range; further: a zone once in a route, the sheet's end, and the order of arrivals
 pub record ZonePasses (s : List ℕ) (z : ℕ) : Type 0 where
   pub follow : Holds s (followAt z) 2 (λ gap. gap ≤ 60000)
   pub cross : Holds s (crossAt z) 2 (λ gap. gap ≤ 60000)

@@ -1,17 +1,17 @@
 -- Reading and writing a sheet undo each other: bytes show a sheet exactly where they are what the sheet is written as.
-use Prim.Native.Nat.{ℕ, zero, suc, _+_, _*_, _≤_, _<_}
+use Prim.Native.Nat.{ℕ, _+_, _*_, _≤_, _<_}
 use mathlib.Core.Path.{_≡_, refl, sym, ap, subst, _∙_}
-use mathlib.Core.List.{List, [], _∷_, _++_, append-assoc}
+use mathlib.Core.List.{List, _++_, append-assoc}
 use mathlib.Core.Logic.{_↔_}
 use native.Mathlib.Omega.{arith}
 use native.Mathlib.Numerals.{add-one}
-use lib.ListN.{length, getD, length-append}
+use lib.ListN.{length, length-append}
 use Rattle.words.specs.Lists.{each}
 use Rattle.words.proofs.Entries.{length-each}
 use Rattle.fields.specs.Bytes.{bytesOf, Bytes, Stands}
 use Rattle.fields.proofs.BytesLaws.{length-bytesOf, stands-append, stands-first, stands-later, stands-each, each-stands, each-ends, Reads, reads-stand, stands-read, reads-append, append-reads, stands-whole, whole-stands, AllBytes, append-bytes, each-bytes, bytesOf-bytes, bytes-below}
 use Rattle.sheet.specs.Layout.{lengthAt, zoneCountAt, zoneCount, followAt, crossAt, cartCountAt, cartCount, cartAt, arrivalAt, stepCountAt, stepCount, zoneAt, passingAt, travelAt, endAt}
-use Rattle.sheet.specs.Reading.{sheetOf, sheetDone, readSheet}
+use Rattle.sheet.specs.Reading.{sheetDone, readSheet}
 use Rattle.sheet.specs.Valid.{follow, cross, lane, arrival, steps, zone, passing, travel, ValidStep, ValidCart, Valid}
 use Rattle.sheet.specs.Written.{zoneBytes, stepBytes, cartBytes, bodyBytes, written}
 use Rattle.sheet.specs.declared.Sheet.{Sheet}
@@ -113,7 +113,7 @@ module _ (s : List ℕ) (sheet : Sheet) (b : Bytes s) where
     body-length : 3 + length (bodyBytes sheet) ≡ length s
     body-length = sym (body-ends s sheet carts-follow carts-stand (h .zones-is .keeps) (h .carts-is .keeps)) ∙ h .ends
 
-    shows-written : s ≡ written sheet
+    pub shows-written : s ≡ written sheet
     unfolding written
     shows-written =
         stands-whole s (written sheet)
@@ -192,10 +192,10 @@ module _ (s : List ℕ) (sheet : Sheet) (v : Valid sheet) where
         let n = zones-read .0 in
         let m = carts-read .0 in
         let few : (i : ℕ) → i < cartCount s → stepCount s i ≤ 8
-            = λ i l. let c = carts-shown i (omega arith) in omega (arith, v .cart i (omega arith) .steps-most) in
+        = λ i l. let c = carts-shown i (omega arith) in omega (arith, v .cart i (omega arith) .steps-most) in
         omega (arith, cart-at-most s (cartCount s) few)
 
-  written-shows : s ≡ written sheet → Shows s sheet
+  pub written-shows : s ≡ written sheet → Shows s sheet
   unfolding written
   written-shows e =
       let whole : Stands s 0 (written sheet) = subst (λ (l : List ℕ). Stands s 0 l) e (whole-stands s) in

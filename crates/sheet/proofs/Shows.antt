@@ -1,14 +1,14 @@
 -- The bytes show a sheet: each field is there with the sheet's value. A valid sheet so shown passes every check, and is what the bytes say.
-use Prim.Native.Nat.{ℕ, suc, _+_, _*_, _≤_, _<_}
-use mathlib.Core.Path.{_≡_, refl, sym, ap, _∙_}
+use Prim.Native.Nat.{ℕ, _+_, _*_, _≤_, _<_}
+use mathlib.Core.Path.{_≡_, sym}
 use mathlib.Core.List.{List}
 use native.Mathlib.Omega.{arith}
 use native.Mathlib.Decide.{decLt}
 use lib.ListN.{length, getD}
 use Rattle.fields.proofs.BytesLaws.{Reads, holds-as}
 use Rattle.sheet.specs.Layout.{versionAt, lengthAt, zoneCountAt, zoneCount, followAt, followOf, crossAt, crossOf, cartCountAt, cartCount, laneAt, laneOf, arrivalAt, arrivalOf, stepCountAt, stepCount, zoneAt, zoneOf, passingAt, passingOf, travelAt, travelOf, endAt}
-use Rattle.sheet.specs.Reading.{table, stepTable, sheetOf}
-use Rattle.sheet.specs.Valid.{follow, cross, lane, arrival, steps, zone, passing, travel, Shaped, UnusedZero, ValidStep, ValidCart, Valid}
+use Rattle.sheet.specs.Reading.{stepTable, sheetOf}
+use Rattle.sheet.specs.Valid.{follow, cross, lane, arrival, steps, zone, passing, travel, ValidCart, Valid}
 use Rattle.sheet.specs.declared.Sheet.{Sheet}
 use Rattle.sheet.proofs.Passing.{ZonePasses, StepPasses, CartPasses, SheetPasses}
 use Rattle.sheet.proofs.Tables.{IsStep, table-is, steps-are}

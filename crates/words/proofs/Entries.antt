@@ -1,11 +1,12 @@
--- A list by a rule is the list whose entries are the rule's.
-use Prim.Native.Nat.{ℕ, zero, suc, _+_, _≤_, _<_}
+-- A list by a rule is the list whose entries are the rule's; the length of lists by a rule, one after the other.
+use Prim.Native.Nat.{ℕ, zero, suc, _+_, _*_, _≤_, _<_}
 use mathlib.Core.Path.{_≡_, refl, sym, ap, _∙_}
 use mathlib.Core.List.{List, [], _∷_}
 use native.Mathlib.Omega.{arith}
-use lib.ListN.{length, getD}
+use native.Mathlib.Nat.{mul-zero, mul-suc}
+use lib.ListN.{length, getD, length-append}
 use lib.Seq.{ext-getD}
-use Rattle.words.specs.Lists.{entries}
+use Rattle.words.specs.Lists.{entries, each}
 
 pub length-entries : {A : Type 0} (n i : ℕ) (rule : ℕ → A) → length (entries n i rule) ≡ n
 unfolding entries
@@ -24,3 +25,8 @@ entries-is l n rule e h =
     ext-getD 0 l (entries n 0 rule) (e ∙ sym (length-entries n 0 rule)) λ k lt.
     let below : k < n = omega arith in
     h k below ∙ ap rule (omega arith) ∙ sym (getD-entries n 0 rule k 0 below)
+
+pub length-each : {A : Type 0} (n i w : ℕ) (rule : ℕ → List A) → ((k : ℕ) → length (rule k) ≡ w) → length (each n i rule) ≡ w * n
+unfolding each
+length-each zero i w rule h = sym (mul-zero w)
+length-each (suc n) i w rule h = rw (length-append, h i, length-each n (i + 1) w rule h, mul-suc) (omega arith)

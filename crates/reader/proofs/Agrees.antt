@@ -12,6 +12,7 @@ use Rattle.words.specs.Lists.{pick, anyBelow, each}
 use Rattle.words.specs.Checks.{Check, check, refused, firstFailing}
 use Rattle.words.specs.declared.Outcome.{Outcome}
 use Rattle.words.proofs.Any.{any-same}
+use Rattle.words.proofs.Tests.{leb-says, and-says}
 use Rattle.fields.specs.Field.{value}
 use Rattle.fields.specs.declared.Cursor.{Cursor}
 use Rattle.fields.proofs.TakingLaws.{taking-checks, pick-checks, unless-checks}
@@ -19,6 +20,7 @@ use Rattle.sheet.specs.Layout.{zoneCount, followAt, followOf, crossAt, crossOf,
 use Rattle.sheet.specs.Checks.{field, isOne, isZoneCount, isGap, isCartCount, isLane, isArrival, isStepCount, isPassing, mostTravel, isNamedBefore, arrivesEarly, zoneChecks, stepChecks, cartChecks, laneChecks, sheetChecks}
 use Rattle.sheet.specs.Reading.{blank, sheetRefused, sheetDone, table, sheetOf, readSheet}
 use Rattle.sheet.specs.declared.Sheet.{Sheet}
+use Rattle.sheet.proofs.Tables.{table-used}
 use Rattle.sheet.specs.declared.SheetRead.{SheetRead}
 use Rattle.cart.specs.Parts.{headAt, inRoute, stepAt}
 use Rattle.cart.specs.declared.CartHead.{CartHead}
@@ -27,12 +29,7 @@ use Rattle.cart.specs.declared.Head.the-variants.{Refused as NoHead}
 use Rattle.cart.specs.declared.Step.{Step}
 use Rattle.cart.specs.declared.Step.the-variants.{Refused as NoStep}
 use Rattle.reader.specs.Scan.{withZones, putZone, withCarts, putCart, putStep, early, lanesFrom, finish, onStep, onHead, stepsFrom, cartsFrom, countFrom, zonesFrom, scan}
-use Rattle.reader.proofs.Tables.{table-none, table-put, table-at, passed, passed-none, passed-at, passed-put, passed-cart, passed-all}
-
-and-right : (a b : Bool) → (a && b) ≡ true → b ≡ true
-and-right true b e = e
-and-right false true e = refl
-and-right false false e = e
+use Rattle.reader.proofs.Tables.{table-none, table-put, passed, passed-none, passed-at, passed-put, passed-cart, passed-all}
 
 module _ (s : List ℕ) where
   -- the sheet when the gaps of z zones, the cart count, the heads of h carts, and the steps before step j of cart i are read
@@ -66,7 +63,7 @@ module _ (s : List ℕ) where
   early-same : (n i : ℕ) → n ≤ 16 → i < n → early (table 16 n (laneOf s)) (table 16 n (arrivalOf s)) i ≡ arrivesEarly s i
   early-same n i l h =
       any-same _ _ i λ e q.
-      rw (table-at 16 n (laneOf s) e (omega arith) l, table-at 16 n (laneOf s) i h l, table-at 16 n (arrivalOf s) e (omega arith) l, table-at 16 n (arrivalOf s) i h l)
+      rw (table-used 16 n (laneOf s) l e (omega arith), table-used 16 n (laneOf s) l i h, table-used 16 n (arrivalOf s) l e (omega arith), table-used 16 n (arrivalOf s) l i h)
 
   module _ (few : cartCount s ≤ 16) where
     -- the sheet when all is read
@@ -84,7 +81,7 @@ module _ (s : List ℕ) where
     unfolding lanesFrom each laneChecks firstFailing
     lanes-agree zero i e = ap sheetDone whole-is
     lanes-agree (suc n) i e =
-        rw (early-same (cartCount s) i few (omega arith), table-at 16 (cartCount s) (arrivalAt s) i (omega arith) few)
+        rw (early-same (cartCount s) i few (omega arith), table-used 16 (cartCount s) (arrivalAt s) few i (omega arith))
         (unless-checks (λ r. r) sheetRefused (sheetDone (sheetOf s)) 14 (arrivalAt s i) (arrivesEarly s i) _ (each n (i + 1) (laneChecks s)) (lanes-agree n (i + 1) (omega arith)))
 
     abbrev last : List Check
@@ -140,7 +137,7 @@ module _ (s : List ℕ) where
         rw second
         (taking-checks then NoHead done 1 s 1 (stepCountAt s i) 9 _ _ _ λ _ k.
         rw (third, table-put 16 i (laneOf s) below, table-put 16 i (arrivalOf s) below, table-put 16 i (stepCount s) below, table-put 16 i (arrivalAt s) below)
-        (steps-agree i (stepCount s i) 0 below (leb-true (stepCount s i) 8 (and-right (leb 1 (stepCount s i)) _ k)) (omega arith) _ (each n (i + 1) (cartChecks s) ++ last) (next (carts-agree n (i + 1) (omega arith))))))
+        (steps-agree i (stepCount s i) 0 below (and-says _ _ (leb-says 1 (stepCount s i)) (leb-says (stepCount s i) 8) .0 k .1) (omega arith) _ (each n (i + 1) (cartChecks s) ++ last) (next (carts-agree n (i + 1) (omega arith))))))
       where
         done : SheetRead
         done = sheetDone (sheetOf s)
@@ -186,4 +183,4 @@ module _ (s : List ℕ) where
       taking-checks (λ r. r) sheetRefused (sheetDone (sheetOf s)) 1 s 2 1 3 _ _ _ λ _ _.
       taking-checks (λ r. r) sheetRefused (sheetDone (sheetOf s)) 1 s 1 3 4 _ _ _ λ _ n.
       ap (λ (sh : Sheet). zonesFrom s (zoneCount s) 0 sh (record { at = 4 })) (sym nothing-yet)
-      ∙ zones-agree (zoneCount s) 0 (leb-true (zoneCount s) 24 (and-right (leb 1 (zoneCount s)) _ n)) (omega arith))
+      ∙ zones-agree (zoneCount s) 0 (and-says _ _ (leb-says 1 (zoneCount s)) (leb-says (zoneCount s) 24) .0 n .1) (omega arith))

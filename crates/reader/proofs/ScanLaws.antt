@@ -1,10 +1,10 @@
 -- One turn of each loop of the scan, over what is left: `m - i` of m carts, `k - j` of k steps.
-use Prim.Native.Nat.{ℕ, suc, _+_, _-_, _*_, _≤_, _<_}
+use Prim.Native.Nat.{ℕ, _+_, _-_, _*_, _≤_, _<_}
 use mathlib.Core.Path.{_≡_}
 use mathlib.Core.List.{List}
-use native.Mathlib.Omega.{arith}
 use lib.ListN.{set}
 use Rattle.words.specs.declared.Outcome.{Outcome}
+use Rattle.words.proofs.Left.{left-suc, left-zero}
 use Rattle.fields.specs.declared.Cursor.{Cursor}
 use Rattle.sheet.specs.Reading.{sheetRefused}
 use Rattle.sheet.specs.declared.Sheet.{Sheet}
@@ -14,15 +14,6 @@ use Rattle.cart.specs.declared.CartHead.{CartHead}
 use Rattle.cart.specs.declared.Head.the-variants.{Got as GotHead, Refused as NoHead}
 use Rattle.cart.specs.declared.Step.the-variants.{Got as GotStep, Refused as NoStep}
 use Rattle.reader.specs.Scan.{stepsFrom, cartsFrom, finish, putCart, putStep}
-
-pub left-suc : (m i : ℕ) → i < m → m - i ≡ suc (m - (i + 1))
-left-suc m i h = omega arith
-
-pub left-zero : (m i : ℕ) → m ≤ i → m - i ≡ 0
-left-zero m i h = omega arith
-
-pub left-all : (m : ℕ) → m - 0 ≡ m
-left-all m = omega arith
 
 module _ (s : List ℕ) (m i : ℕ) (sh : Sheet) (spot : List ℕ) (c : Cursor) where
   pub carts-end : m ≤ i → cartsFrom s (m - i) i sh spot c ≡ finish s sh spot c

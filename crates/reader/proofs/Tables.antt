@@ -1,39 +1,17 @@
 -- The sheet as far as it is read, as tables: each store of the scan adds the next entry.
-use Prim.Native.Nat.{ℕ, suc, _+_, _*_, _/_, _%_, _≤_, _<_}
+use Prim.Native.Nat.{ℕ, _+_, _*_, _/_, _%_, _≤_, _<_}
 use mathlib.Core.Path.{_≡_, refl, sym, ap, _∙_}
 use mathlib.Core.Bool.{Bool, true, false, _&&_, _||_}
 use mathlib.Core.List.{List}
 use native.Mathlib.Omega.{arith}
 use native.Mathlib.Decide.{ℕ-discrete, decLt}
 use lib.Dec.{ltb, eqb}
-use lib.ListN.{length, getD, set, replicate, length-set, length-replicate, getD-replicate}
-use lib.Seq.{getD-set-same, getD-set-other}
-use borrow.Author.Tests.{lt-ltb, le-ltb, eq-eqb, ne-eqb, ltb-true, ltb-false}
+use lib.ListN.{getD, set, replicate}
+use borrow.Author.Tests.{lt-ltb, le-ltb, eq-eqb, ne-eqb}
 use Rattle.words.specs.Lists.{pick, entries}
-use Rattle.words.proofs.Entries.{length-entries, getD-entries, entries-is}
+use Rattle.words.proofs.Entries.{at-entry, zeros-are, same-entries, put-entry}
 use Rattle.sheet.specs.Layout.{cartCount, stepCount}
 use Rattle.sheet.specs.Reading.{table, stepTable}
-
--- entry x, by number
-at-entry : (n : ℕ) (rule : ℕ → ℕ) (x : ℕ) → x < n → getD (entries n 0 rule) x 0 ≡ rule x
-at-entry n rule x h = getD-entries n 0 rule x 0 h ∙ ap rule (omega arith)
-
--- a list by a rule that is 0 everywhere
-zeros-are : (n : ℕ) (rule : ℕ → ℕ) → ((x : ℕ) → rule x ≡ 0) → replicate n 0 ≡ entries n 0 rule
-zeros-are n rule h = entries-is (replicate n 0) n rule (length-replicate n 0) λ x l. getD-replicate n x 0 0 l ∙ sym (h x)
-
-same-entries : (n : ℕ) (rule other : ℕ → ℕ) → ((x : ℕ) → x < n → rule x ≡ other x) → entries n 0 rule ≡ entries n 0 other
-same-entries n rule other h =
-    entries-is (entries n 0 rule) n other (length-entries n 0 rule) λ x l. at-entry n rule x l ∙ h x l
-
--- one entry stored: the rule changes there and nowhere else
-put-entry : (n : ℕ) (rule other : ℕ → ℕ) (k v : ℕ) → k < n → other k ≡ v → ((x : ℕ) → (x ≡ k → ⊥) → other x ≡ rule x) → set (entries n 0 rule) k v ≡ entries n 0 other
-put-entry n rule other k v h e f =
-    entries-is (set (entries n 0 rule) k v) n other (length-set (entries n 0 rule) k v ∙ length-entries n 0 rule) λ x l. go x l (ℕ-discrete x k)
-  where
-    go : (x : ℕ) → x < n → Dec (x ≡ k) → getD (set (entries n 0 rule) k v) x 0 ≡ other x
-    go x l (yes q) = rw (q, getD-set-same (entries n 0 rule) k v 0 (rw (length-entries n 0 rule) h)) (sym e)
-    go x l (no q) = getD-set-other (entries n 0 rule) k x v 0 q ∙ at-entry n rule x l ∙ sym (f x q)
 
 -- ---- the first n entries
 
@@ -47,9 +25,6 @@ table-put width n rule h =
     side : (x : ℕ) → (x ≡ n → ⊥) → Dec (x < n) → ltb x (n + 1) ≡ ltb x n
     side x q (yes l) = rw (lt-ltb x n l, lt-ltb x (n + 1) (omega arith))
     side x q (no l) = rw (le-ltb x n (omega (arith, l)), le-ltb x (n + 1) (omega (arith, l, q)))
-
-pub table-at : (width n : ℕ) (rule : ℕ → ℕ) (k : ℕ) → k < n → n ≤ width → getD (table width n rule) k 0 ≡ rule k
-table-at width n rule k h l = at-entry width _ k (omega arith) ∙ rw (lt-ltb k n h)
 
 or-none : (a b : Bool) → (a || (b && false)) ≡ a
 or-none true b = refl

@@ -1,11 +1,12 @@
--- A list by a rule is the list whose entries are the rule's; the length of lists by a rule, one after the other.
+-- A list by a rule is the list whose entries are the rule's: looked up, compared, stored to; and the length of such lists in a row.
 use Prim.Native.Nat.{ℕ, zero, suc, _+_, _*_, _≤_, _<_}
 use mathlib.Core.Path.{_≡_, refl, sym, ap, _∙_}
 use mathlib.Core.List.{List, [], _∷_}
 use native.Mathlib.Omega.{arith}
 use native.Mathlib.Nat.{mul-zero, mul-suc}
-use lib.ListN.{length, getD, length-append}
-use lib.Seq.{ext-getD}
+use native.Mathlib.Decide.{ℕ-discrete}
+use lib.ListN.{length, getD, set, replicate, length-append, length-set, length-replicate, getD-replicate}
+use lib.Seq.{ext-getD, getD-set-same, getD-set-other}
 use Rattle.words.specs.Lists.{entries, each}
 
 pub length-entries : {A : Type 0} (n i : ℕ) (rule : ℕ → A) → length (entries n i rule) ≡ n
@@ -30,3 +31,24 @@ pub length-each : {A : Type 0} (n i w : ℕ) (rule : ℕ → List A) → ((k : �
 unfolding each
 length-each zero i w rule h = sym (mul-zero w)
 length-each (suc n) i w rule h = rw (length-append, h i, length-each n (i + 1) w rule h, mul-suc) (omega arith)
+
+-- entry x, by number
+pub at-entry : (n : ℕ) (rule : ℕ → ℕ) (x : ℕ) → x < n → getD (entries n 0 rule) x 0 ≡ rule x
+at-entry n rule x h = getD-entries n 0 rule x 0 h ∙ ap rule (omega arith)
+
+-- a list by a rule that is 0 everywhere
+pub zeros-are : (n : ℕ) (rule : ℕ → ℕ) → ((x : ℕ) → rule x ≡ 0) → replicate n 0 ≡ entries n 0 rule
+zeros-are n rule h = entries-is (replicate n 0) n rule (length-replicate n 0) λ x l. getD-replicate n x 0 0 l ∙ sym (h x)
+
+pub same-entries : (n : ℕ) (rule other : ℕ → ℕ) → ((x : ℕ) → x < n → rule x ≡ other x) → entries n 0 rule ≡ entries n 0 other
+same-entries n rule other h =
+    entries-is (entries n 0 rule) n other (length-entries n 0 rule) λ x l. at-entry n rule x l ∙ h x l
+
+-- one entry stored: the rule changes there and nowhere else
+pub put-entry : (n : ℕ) (rule other : ℕ → ℕ) (k v : ℕ) → k < n → other k ≡ v → ((x : ℕ) → (x ≡ k → ⊥) → other x ≡ rule x) → set (entries n 0 rule) k v ≡ entries n 0 other
+put-entry n rule other k v h e f =
+    entries-is (set (entries n 0 rule) k v) n other (length-set (entries n 0 rule) k v ∙ length-entries n 0 rule) λ x l. go x l (ℕ-discrete x k)
+  where
+    go : (x : ℕ) → x < n → Dec (x ≡ k) → getD (set (entries n 0 rule) k v) x 0 ≡ other x
+    go x l (yes q) = rw (q, getD-set-same (entries n 0 rule) k v 0 (rw (length-entries n 0 rule) h)) (sym e)
+    go x l (no q) = getD-set-other (entries n 0 rule) k x v 0 q ∙ at-entry n rule x l ∙ sym (f x q)

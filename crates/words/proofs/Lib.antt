@@ -1,5 +1,6 @@
 pub mod Any
 pub mod Entries
+pub mod Left
 pub mod All
 pub mod First
 pub mod Tests

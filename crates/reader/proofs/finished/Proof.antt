@@ -4,7 +4,7 @@ use mathlib.Core.Path.{_≡_, sym, _∙_}
 use native.Mathlib.Omega.{arith}
 use borrow.Author.Tests.{eq-eqb, ne-eqb}
 use Rattle.reader.specs.Scan.{lanesFrom, finish}
-use Rattle.reader.proofs.ScanLaws.{left-all, left-suc, left-zero}
+use Rattle.words.proofs.Left.{left-all, left-suc, left-zero}
 use borrow.Author.Needs.{needs}
 use Rattle.reader.proofs.finished.Statement.{statement}
 use Rattle.reader.proofs.finished.Tie as tie

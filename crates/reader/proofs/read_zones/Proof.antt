@@ -5,7 +5,7 @@ use native.Mathlib.Omega.{arith}
 use borrow.Author.Tests.{le-leb, lt-leb}
 use Rattle.fields.specs.Field.{taking}
 use Rattle.reader.specs.Scan.{zonesFrom}
-use Rattle.reader.proofs.ScanLaws.{left-all, left-suc, left-zero}
+use Rattle.words.proofs.Left.{left-all, left-suc, left-zero}
 use borrow.Author.Needs.{needs}
 use Rattle.reader.proofs.read_zones.Statement.{statement}
 use Rattle.reader.proofs.read_zones.Tie as tie

@@ -5,7 +5,8 @@ use mathlib.Core.Logic.{inl, inr}
 use native.Mathlib.Omega.{arith}
 use Rattle.cart.proofs.PartLaws.{head-steps, head-refused, step-refused}
 use Rattle.reader.specs.Scan.{cartsFrom, stepsFrom}
-use Rattle.reader.proofs.ScanLaws.{left-all, carts-end, carts-refused, carts-head, steps-end, steps-refused, steps-next}
+use Rattle.words.proofs.Left.{left-all}
+use Rattle.reader.proofs.ScanLaws.{carts-end, carts-refused, carts-head, steps-end, steps-refused, steps-next}
 use borrow.Author.Needs.{needs}
 use Rattle.reader.proofs.scan_carts.Statement.{statement}
 use Rattle.reader.proofs.scan_carts.Tie as tie

@@ -1,0 +1,2 @@
+pub mod DemandOne
+pub mod Examples

@@ -1,6 +1,5 @@
 // Each public operation once more, promised in the order's words: what is proved here is proved of the operation itself.
 use sheet::SheetRead;
-
 ghost use Rattle.words.specs.declared.Outcome.{Outcome};
 ghost use Rattle.sheet.specs.Checks.{sheetChecks};
 ghost use Rattle.sheet.specs.Reading.{sheetRefused, sheetDone, sheetOf};

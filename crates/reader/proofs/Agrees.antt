@@ -28,7 +28,8 @@ use Rattle.cart.specs.declared.Head.{Head}
 use Rattle.cart.specs.declared.Head.the-variants.{Refused as NoHead}
 use Rattle.cart.specs.declared.Step.{Step}
 use Rattle.cart.specs.declared.Step.the-variants.{Refused as NoStep}
-use Rattle.reader.specs.Scan.{withZones, putZone, withCarts, putCart, putStep, early, lanesFrom, finish, onStep, onHead, stepsFrom, cartsFrom, countFrom, zonesFrom, scan}
+use Rattle.carts.specs.Scan.{putCart, putStep, early, lanesFrom, finish, onStep, onHead, stepsFrom, cartsFrom}
+use Rattle.reader.specs.Scan.{withZones, putZone, withCarts, countFrom, zonesFrom, scan}
 use Rattle.reader.proofs.Tables.{table-none, table-put, passed, passed-none, passed-at, passed-put, passed-cart, passed-all}
 
 module _ (s : List ℕ) where

@@ -1,3 +1,2 @@
-pub mod ScanLaws
 pub mod Tables
 pub mod Agrees

@@ -3,8 +3,8 @@ use mathlib.Core.Path.{_≡_, sym, ap, _∙_}
 use mathlib.Core.Logic.{⊎-elim}
 use native.Mathlib.Omega.{arith}
 use borrow.Author.Needs.{needs}
-use Rattle.reader.proofs.read_carts.Statement.{statement}
-use Rattle.reader.proofs.read_carts.Tie as tie
+use Rattle.carts.proofs.read_carts.Statement.{statement}
+use Rattle.carts.proofs.read_carts.Tie as tie
 
 scan-carts-requires : tie.Need-scan-carts-requires
 scan-carts-requires c κs = search needs

@@ -11,8 +11,8 @@ use lib.ListN.{getD}
 use lib.Dec.{ltb, eqb}
 use mathlib.Core.Bool.{_&&_}
 use borrow.Author.Needs.{needs}
-use Rattle.reader.proofs.is_early.Statement.{statement}
-use Rattle.reader.proofs.is_early.Tie as tie
+use Rattle.carts.proofs.is_early.Statement.{statement}
+use Rattle.carts.proofs.is_early.Tie as tie
 
 abbrev Inv-loop : tie.InvT-loop
 Inv-loop lane arrival i e₀ e =

@@ -4,12 +4,12 @@ use mathlib.Core.Path.{_≡_, refl, sym, _∙_}
 use mathlib.Core.Logic.{inl, inr}
 use native.Mathlib.Omega.{arith}
 use Rattle.cart.proofs.PartLaws.{head-steps, head-refused, step-refused}
-use Rattle.reader.specs.Scan.{cartsFrom, stepsFrom}
+use Rattle.carts.specs.Scan.{cartsFrom, stepsFrom}
 use Rattle.words.proofs.Left.{left-all}
-use Rattle.reader.proofs.ScanLaws.{carts-end, carts-refused, carts-head, steps-end, steps-refused, steps-next}
+use Rattle.carts.proofs.ScanLaws.{carts-end, carts-refused, carts-head, steps-end, steps-refused, steps-next}
 use borrow.Author.Needs.{needs}
-use Rattle.reader.proofs.scan_carts.Statement.{statement}
-use Rattle.reader.proofs.scan_carts.Tie as tie
+use Rattle.carts.proofs.scan_carts.Statement.{statement}
+use Rattle.carts.proofs.scan_carts.Tie as tie
 
 abbrev Inv-loop : tie.InvT-loop
 Inv-loop s m n sh₀ spot at₀ outcome₀ i k base j₀ sh at outcome j =

@@ -13,7 +13,7 @@ use Rattle.cart.specs.Parts.{headAt, stepAt}
 use Rattle.cart.specs.declared.CartHead.{CartHead}
 use Rattle.cart.specs.declared.Head.the-variants.{Got as GotHead, Refused as NoHead}
 use Rattle.cart.specs.declared.Step.the-variants.{Got as GotStep, Refused as NoStep}
-use Rattle.reader.specs.Scan.{stepsFrom, cartsFrom, finish, putCart, putStep}
+use Rattle.carts.specs.Scan.{stepsFrom, cartsFrom, finish, putCart, putStep}
 
 module _ (s : List ℕ) (m i : ℕ) (sh : Sheet) (spot : List ℕ) (c : Cursor) where
   pub carts-end : m ≤ i → cartsFrom s (m - i) i sh spot c ≡ finish s sh spot c

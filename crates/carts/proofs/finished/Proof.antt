@@ -3,11 +3,11 @@ use Prim.Native.Nat.{_-_, _≤_}
 use mathlib.Core.Path.{_≡_, sym, _∙_}
 use native.Mathlib.Omega.{arith}
 use borrow.Author.Tests.{eq-eqb, ne-eqb}
-use Rattle.reader.specs.Scan.{lanesFrom, finish}
+use Rattle.carts.specs.Scan.{lanesFrom, finish}
 use Rattle.words.proofs.Left.{left-all, left-suc, left-zero}
 use borrow.Author.Needs.{needs}
-use Rattle.reader.proofs.finished.Statement.{statement}
-use Rattle.reader.proofs.finished.Tie as tie
+use Rattle.carts.proofs.finished.Statement.{statement}
+use Rattle.carts.proofs.finished.Tie as tie
 
 abbrev Inv-loop : tie.InvT-loop
 Inv-loop s sheet spot m lane arrival i₀ i =

@@ -1,0 +1,69 @@
+-- A permitted move stays permitted while other carts move; a held cart waits for some cart; and the tests.
+use Prim.Native.Nat.{ℕ, _<_}
+use mathlib.Core.Path.{_≡_}
+use mathlib.Core.Logic.{_≢_}
+use mathlib.Core.Bool.{true, false, not}
+use mathlib.Core.Option.{Option, none, some, Option·getD}
+use mathlib.Core.List.{List}
+use native.Mathlib.Nat.{le-trans}
+use native.Mathlib.Omega.{arith}
+use lib.Dec.{ltb}
+use borrow.Author.Tests.{ltb-true, ltb-false, lt-ltb, le-ltb, not-true}
+use Rattle.words.specs.Lists.{anyBelow}
+use Rattle.moves.specs.System.{System, carts, pos}
+use Rattle.moves.specs.Search.{lowest, IsLowest}
+use Rattle.moves.specs.Moves.{moved, NotOut, Permitted, Held, Waits, isShort, isPermitted}
+use Rattle.moves.specs.Records.{Meetable}
+use Rattle.moves.specs.Rings.{Points}
+use Rattle.moves.proofs.Tests.{and-both, both-and, any-none, none-any, lowest-is}
+use Rattle.moves.proofs.Positions.{pos-inside, moved-other, moved-up}
+
+module _ (S : System) where
+  pub permitted-cart : (s : List ℕ) (c : ℕ) → Permitted S s c → c < carts S
+  permitted-cart s c p = pos-inside (S .out) c (pos s c) (p .not-out)
+
+  pub permitted-stays : (s : List ℕ) (c d : ℕ) → c ≢ d → Permitted S s c → Permitted S (moved s d) c
+  permitted-stays s c d n p = record {
+    not-out = rw (moved-other s d c n) (p .not-out);
+    met = λ e h. rw (moved-other s d c n) (le-trans (p .met e h) (moved-up s d e));
+  }
+
+  -- ---- the test
+
+  pub test-permitted : (s : List ℕ) (c : ℕ) → isPermitted S s c ≡ true → Permitted S s c
+  unfolding isPermitted
+  test-permitted s c e =
+      let both = and-both (ltb (pos s c) (pos (S .out) c)) (not (anyBelow (isShort S s c (pos s c)) (carts S))) e in
+      let none-short = any-none (isShort S s c (pos s c)) (carts S) (not-true _ (both .1)) in
+      record {
+        not-out = ltb-true _ _ (both .0);
+        met = λ d h. ltb-false (pos s d) (S .need c (pos s c) d) (none-short d h);
+      }
+
+  pub permitted-test : (s : List ℕ) (c : ℕ) → Permitted S s c → isPermitted S s c ≡ true
+  unfolding isPermitted
+  permitted-test s c p =
+      rw (lt-ltb (pos s c) (pos (S .out) c) (p .not-out), none-any (isShort S s c (pos s c)) (carts S) (λ d h. le-ltb (pos s d) (S .need c (pos s c) d) (p .met d h)))
+
+  -- ---- a cart that is held waits
+
+  -- the lowest cart that c waits for
+  unfoldable pub lowestWaited : List ℕ → ℕ → ℕ
+  lowestWaited s c = Option·getD (lowest (isShort S s c (pos s c)) (carts S)) 0
+
+  pub lowest-points : (s : List ℕ) → Points S s (lowestWaited s)
+  unfolding lowestWaited
+  lowest-points s c h = go (lowest (isShort S s c (pos s c)) (carts S)) (lowest-is (isShort S s c (pos s c)) (carts S))
+    where
+      go : (o : Option ℕ) → IsLowest (isShort S s c (pos s c)) (carts S) o → Waits S s c (Option·getD o 0)
+      go none q = absurd (h .not-permitted (record { not-out = h .not-out; met = λ d l. ltb-false (pos s d) (S .need c (pos s c) d) (q d l) }))
+      go (some d) q = record { cart = q .0; short = ltb-true (pos s d) (S .need c (pos s c) d) (q .1) }
+
+  pub held-waits : (s : List ℕ) (c : ℕ) → Held S s c → (d : ℕ) × Waits S s c d
+  held-waits s c h = (lowestWaited s c, lowest-points s c h)
+
+  pub waits-held : (s : List ℕ) (c d : ℕ) → NotOut S s c → Waits S s c d → Held S s c
+  waits-held s c d h w = record { not-out = h; not-permitted = λ p. omega (arith, w .short, p .met d (w .cart)) }
+
+  pub waited-not-out : Meetable S → (s : List ℕ) (c d : ℕ) → NotOut S s c → Waits S s c d → NotOut S s d
+  waited-not-out meet s c d h w = omega (arith, w .short, meet c (pos s c) d h (w .cart))

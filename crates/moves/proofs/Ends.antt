@@ -2,7 +2,7 @@
 use Prim.Native.Nat.{ℕ, zero, suc, _+_, _≤_, _<_}
 use mathlib.Core.Path.{_≡_, refl, sym, _∙_}
 use mathlib.Core.Logic.{_⊎_, inl, inr}
-use mathlib.Core.Bool.{true, true≢false}
+use mathlib.Core.Bool.{true≢false}
 use mathlib.Core.Option.{Option, none, some}
 use mathlib.Core.List.{List, [], _∷_}
 use native.Mathlib.Nat.{le-trans}
@@ -16,7 +16,7 @@ use Rattle.moves.specs.Runs.{after, Run, Reaches, Stuck, greedy, end}
 use Rattle.moves.proofs.Tests.{lowest-is}
 use Rattle.moves.proofs.Positions.{moved-below, ≼-antisym, ≼-sum}
 use Rattle.moves.proofs.Moves.{permitted-cart, test-permitted, permitted-test}
-use Rattle.moves.proofs.Runs.{moved-in-range, permitted-sum, reaches-up, reaches-in-range, after-length}
+use Rattle.moves.proofs.Runs.{moved-in-range, permitted-sum, reaches-up, after-length}
 
 module _ (S : System) where
   -- a move permitted in s is permitted in a later state in which its cart has not moved
@@ -45,6 +45,10 @@ module _ (S : System) where
     where
       sized : (v : List ℕ) → Reaches S s v → length v ≡ length s
       sized v z = rw (← z .ends) (after-length s (z .run))
+
+  -- a cart that is not out where no move is left comes out in no run
+  pub stuck-never-out : (s t u : List ℕ) (c : ℕ) → Reaches S s u → Stuck S u → NotOut S u c → Reaches S s t → NotOut S t c
+  stuck-never-out s t u c x stuck h y = omega (arith, reaches-below s t u stuck (reaches-up S s u x) y c)
 
   -- ---- the greedy run
 
@@ -94,16 +98,5 @@ module _ (S : System) where
   unfolding end
   end-stuck s r = greedy-stuck (sum (S .out)) s r (omega arith)
 
-  pub end-in-range : (s : List ℕ) → InRange S s → InRange S (end S s)
-  end-in-range s r = reaches-in-range S s (end S s) r (end-reached s)
-
   pub end-unique : (s t : List ℕ) → InRange S s → Reaches S s t → Stuck S t → t ≡ end S s
   end-unique s t r x stuck = stuck-unique s t (end S s) x stuck (end-reached s) (end-stuck s r)
-
-  -- every state that is reached is below the end
-  pub end-above : (s t : List ℕ) → InRange S s → Reaches S s t → t ≼ end S s
-  end-above s t r x = reaches-below s t (end S s) (end-stuck s r) (reaches-up S s (end S s) (end-reached s)) x
-
-  -- a cart that the end leaves behind comes out in no run
-  pub end-never-out : (s t : List ℕ) (c : ℕ) → InRange S s → Reaches S s t → NotOut S (end S s) c → NotOut S t c
-  end-never-out s t c r x h = omega (arith, end-above s t r x c)

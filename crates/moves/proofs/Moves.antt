@@ -2,7 +2,7 @@
 use Prim.Native.Nat.{ℕ, _<_}
 use mathlib.Core.Path.{_≡_}
 use mathlib.Core.Logic.{_≢_}
-use mathlib.Core.Bool.{true, false, not}
+use mathlib.Core.Bool.{true, not}
 use mathlib.Core.Option.{Option, none, some, Option·getD}
 use mathlib.Core.List.{List}
 use native.Mathlib.Nat.{le-trans}
@@ -15,7 +15,7 @@ use Rattle.moves.specs.Search.{lowest, IsLowest}
 use Rattle.moves.specs.Moves.{moved, NotOut, Permitted, Held, Waits, isShort, isPermitted}
 use Rattle.moves.specs.Records.{Meetable}
 use Rattle.moves.specs.Rings.{Points}
-use Rattle.moves.proofs.Tests.{and-both, both-and, any-none, none-any, lowest-is}
+use Rattle.moves.proofs.Tests.{and-both, any-none, none-any, lowest-is}
 use Rattle.moves.proofs.Positions.{pos-inside, moved-other, moved-up}
 
 module _ (S : System) where

@@ -1,10 +1,11 @@
 -- Systems whose carts all come out: every run goes on until they are, in one number of moves.
-use Prim.Native.Nat.{ℕ, _+_}
-use mathlib.Core.Path.{_≡_, refl, sym, ap, _∙_}
+use Prim.Native.Nat.{ℕ, _+_, _<_}
+use mathlib.Core.Path.{_≡_, sym, ap, _∙_}
 use mathlib.Core.Logic.{_↔_, _⊎_, inl, inr}
-use mathlib.Core.Bool.{Bool, true}
+use mathlib.Core.Bool.{Bool}
 use mathlib.Core.Option.{Option, none, some}
 use mathlib.Core.List.{List, [], _∷_}
+use native.Mathlib.Decide.{decLt}
 use native.Mathlib.Omega.{arith}
 use lib.ListN.{length}
 use lib.Seq.{ext-getD}
@@ -13,11 +14,12 @@ use borrow.Author.Tests.{ltb-true, ltb-false}
 use Rattle.moves.specs.System.{System, carts, pos, start, InRange, sum}
 use Rattle.moves.specs.Search.{lowest, IsLowest}
 use Rattle.moves.specs.Moves.{NotOut, Permitted}
+use Rattle.moves.specs.Rings.{LowestNotOut}
 use Rattle.moves.specs.Runs.{after, Run, Reaches, AllComeOut, Stuck, end}
 use Rattle.moves.proofs.Tests.{lowest-is}
 use Rattle.moves.proofs.Positions.{zeros-sum}
 use Rattle.moves.proofs.Runs.{start-in-range, reaches-in-range, reaches-trans, run-sum}
-use Rattle.moves.proofs.Ends.{stuck-unique, end-reached, end-stuck, end-unique}
+use Rattle.moves.proofs.Ends.{stuck-unique, end-reached, end-stuck}
 
 module _ (S : System) where
   pub out-stuck : Stuck S (S .out)
@@ -53,14 +55,21 @@ module _ (S : System) where
   pub start-moves : (all : AllComeOut S (start S)) → length (all .run) ≡ sum (S .out)
   start-moves all = omega (arith, out-moves (start S) (start-in-range S) all, zeros-sum (carts S))
 
-  -- in a state in range all are out, or some cart is not
-  pub out-or-not : (s : List ℕ) → InRange S s → (s ≡ S .out) ⊎ ((c : ℕ) × NotOut S s c)
+  -- in a state in range all are out, or there is a lowest cart that is not
+  pub out-or-not : (s : List ℕ) → InRange S s → (s ≡ S .out) ⊎ ((c : ℕ) × LowestNotOut S s c)
   out-or-not s r = go (lowest isIn (carts S)) (lowest-is isIn (carts S))
     where
       isIn : ℕ → Bool
       isIn c = ltb (pos s c) (pos (S .out) c)
 
-      go : (o : Option ℕ) → IsLowest isIn (carts S) o → (s ≡ S .out) ⊎ ((c : ℕ) × NotOut S s c)
-      go none q =
-          inl (ext-getD 0 s (S .out) (r .sized) λ c h. omega (arith, r .within c, ltb-false (pos s c) (pos (S .out) c) (q c (rw (r .sized) at h))))
-      go (some c) q = inr (c, ltb-true _ _ (q .1))
+      go : (o : Option ℕ) → IsLowest isIn (carts S) o → (s ≡ S .out) ⊎ ((c : ℕ) × LowestNotOut S s c)
+      go none all = inl (ext-getD 0 s (S .out) (r .sized) λ c h. omega (arith, r .within c, ltb-false (pos s c) (pos (S .out) c) (all c (rw (r .sized) at h))))
+      go (some c) (l, is-in, lower) = inr (c, record { not-out = ltb-true _ _ is-in; lower-out = λ d h k. omega (arith, ltb-false (pos s d) (pos (S .out) d) (lower d h)) })
+
+  pub lowest-not-out-unique : (s : List ℕ) (c d : ℕ) → LowestNotOut S s c → LowestNotOut S s d → c ≡ d
+  lowest-not-out-unique s c d x y = go (decLt c d) (decLt d c)
+    where
+      go : Dec (c < d) → Dec (d < c) → c ≡ d
+      go (yes h) k = absurd (y .lower-out c h (x .not-out))
+      go (no h) (yes k) = absurd (x .lower-out d k (y .not-out))
+      go (no h) (no k) = omega arith

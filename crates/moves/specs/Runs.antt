@@ -3,7 +3,7 @@ use Prim.Native.Nat.{ℕ, zero, suc}
 use mathlib.Core.Path.{_≡_}
 use mathlib.Core.Option.{none, some}
 use mathlib.Core.List.{List, [], _∷_}
-use Rattle.moves.specs.System.{System, carts, start, sum}
+use Rattle.moves.specs.System.{System, carts, sum}
 use Rattle.moves.specs.Search.{lowest}
 use Rattle.moves.specs.Moves.{moved, Permitted, isPermitted}
 

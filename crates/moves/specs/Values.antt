@@ -25,6 +25,6 @@ module _ {A : Type 0} where
     Solves s t = (c p : ℕ) → p < pos s c → t c p ≡ rule t c p
 
     -- the rule's values, worked out move by move along a run from s
-    unfoldable pub worked : (ℕ → ℕ → A) → List ℕ → List ℕ → ℕ → ℕ → A
-    worked t s [] = t
-    worked t s (c ∷ run) = worked (put t c (pos s c) (rule t c (pos s c))) (moved s c) run
+    unfoldable pub workedOut : (ℕ → ℕ → A) → List ℕ → List ℕ → ℕ → ℕ → A
+    workedOut t s [] = t
+    workedOut t s (c ∷ run) = workedOut (put t c (pos s c) (rule t c (pos s c))) (moved s c) run

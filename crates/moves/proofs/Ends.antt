@@ -1,7 +1,6 @@
 -- The state where no move is left: it bounds every run, so it does not depend on the order; the greedy run computes it.
 use Prim.Native.Nat.{ℕ, zero, suc, _+_, _≤_, _<_}
 use mathlib.Core.Path.{_≡_, refl, sym, _∙_}
-use mathlib.Core.Logic.{_⊎_, inl, inr}
 use mathlib.Core.Bool.{true≢false}
 use mathlib.Core.Option.{Option, none, some}
 use mathlib.Core.List.{List, [], _∷_}
@@ -54,14 +53,6 @@ module _ (S : System) where
 
   none-stuck : (s : List ℕ) → IsLowest (isPermitted S s) (carts S) none → Stuck S s
   none-stuck s none-may c p = true≢false (sym (permitted-test S s c p) ∙ none-may c (permitted-cart S s c p))
-
-  -- some cart may move, or no move is left
-  pub permitted-or-stuck : (s : List ℕ) → ((c : ℕ) × Permitted S s c) ⊎ Stuck S s
-  permitted-or-stuck s = go (lowest (isPermitted S s) (carts S)) (lowest-is (isPermitted S s) (carts S))
-    where
-      go : (o : Option ℕ) → IsLowest (isPermitted S s) (carts S) o → ((c : ℕ) × Permitted S s c) ⊎ Stuck S s
-      go none q = inr (none-stuck s q)
-      go (some c) q = inl (c, test-permitted S s c (q .1))
 
   pub greedy-run : (n : ℕ) (s : List ℕ) → Run S s (greedy S n s)
   unfolding greedy

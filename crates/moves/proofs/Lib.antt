@@ -13,3 +13,4 @@ pub mod Cycles
 pub mod Records
 pub mod Values
 pub mod Looser
+pub mod Examples

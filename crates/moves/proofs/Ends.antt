@@ -4,34 +4,26 @@ use mathlib.Core.Path.{_≡_, refl, sym, _∙_}
 use mathlib.Core.Bool.{true≢false}
 use mathlib.Core.Option.{Option, none, some}
 use mathlib.Core.List.{List, [], _∷_}
-use native.Mathlib.Nat.{le-trans}
 use native.Mathlib.Decide.{decLt}
 use native.Mathlib.Omega.{arith}
 use lib.ListN.{length}
 use Rattle.moves.specs.System.{System, carts, pos, _≼_, InRange, sum}
 use Rattle.moves.specs.Search.{lowest, IsLowest}
-use Rattle.moves.specs.Moves.{moved, NotOut, Permitted, isPermitted}
+use Rattle.moves.specs.Moves.{moved, NotOut, isPermitted}
 use Rattle.moves.specs.Runs.{after, Run, Reaches, Stuck, greedy, end}
 use Rattle.moves.proofs.Tests.{lowest-is}
 use Rattle.moves.proofs.Positions.{moved-below, ≼-antisym, ≼-sum}
-use Rattle.moves.proofs.Moves.{permitted-cart, test-permitted, permitted-test}
+use Rattle.moves.proofs.Moves.{permitted-cart, permitted-later, test-permitted, permitted-test}
 use Rattle.moves.proofs.Runs.{moved-in-range, permitted-sum, reaches-up, after-length}
 
 module _ (S : System) where
-  -- a move permitted in s is permitted in a later state in which its cart has not moved
-  permitted-later : (s u : List ℕ) (c : ℕ) → s ≼ u → pos s c ≡ pos u c → Permitted S s c → Permitted S u c
-  permitted-later s u c h e p = record {
-    not-out = rw (← e) (p .not-out);
-    met = λ d l. rw (← e) (le-trans (p .met d l) (h d));
-  }
-
   run-below : (s u run : List ℕ) → Stuck S u → s ≼ u → Run S s run → after s run ≼ u
   run-below s u [] stuck h l = h
   run-below s u (c ∷ run) stuck h l = run-below (moved s c) u run stuck (moved-below s u c h (go (decLt (pos s c) (pos u c)))) (l .1)
     where
       go : Dec (pos s c < pos u c) → pos s c < pos u c
       go (yes b) = b
-      go (no b) = absurd (stuck c (permitted-later s u c h (omega (arith, h c)) (l .0)))
+      go (no b) = absurd (stuck c (permitted-later S s u c h (omega (arith, h c)) (l .0)))
 
   -- no run passes a state in which no move is left
   pub reaches-below : (s t u : List ℕ) → Stuck S u → s ≼ u → Reaches S s t → t ≼ u

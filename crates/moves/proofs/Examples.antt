@@ -74,4 +74,6 @@ cycle-B = locked-iff-cycle B meetable-B .0 locked-B
 
 ring-B : Ring (lowestWaited B (1 ∷ 1 ∷ [])) 0 0 (1 ∷ [])
 unfolding ringFirst ringRest leastFrom between lowestWaited lowest
-ring-B = ring-exists B meetable-B (1 ∷ 1 ∷ []) (rw end-B at (end-stuck B (start B) (start-in-range B))) (lowestWaited B (1 ∷ 1 ∷ [])) (lowest-points B (1 ∷ 1 ∷ [])) 0 (lit< tt)
+ring-B =
+    let s : List ℕ = 1 ∷ 1 ∷ [] in
+    ring-exists B meetable-B s (rw end-B at (end-stuck B (start B) (start-in-range B))) (lowestWaited B s) (lowest-points B s) 0 (lit< tt)

@@ -1,6 +1,6 @@
 -- A permitted move stays permitted while other carts move; a held cart waits for some cart; and the tests.
 use Prim.Native.Nat.{ℕ, _<_}
-use mathlib.Core.Path.{_≡_}
+use mathlib.Core.Path.{_≡_, sym}
 use mathlib.Core.Logic.{_≢_}
 use mathlib.Core.Bool.{true, not}
 use mathlib.Core.Option.{Option, none, some, Option·getD}
@@ -10,7 +10,7 @@ use native.Mathlib.Omega.{arith}
 use lib.Dec.{ltb}
 use borrow.Author.Tests.{ltb-true, ltb-false, lt-ltb, le-ltb, not-true}
 use Rattle.words.specs.Lists.{anyBelow}
-use Rattle.moves.specs.System.{System, carts, pos}
+use Rattle.moves.specs.System.{System, carts, pos, _≼_}
 use Rattle.moves.specs.Search.{lowest, IsLowest}
 use Rattle.moves.specs.Moves.{moved, NotOut, Permitted, Held, Waits, isShort, isPermitted}
 use Rattle.moves.specs.Records.{Meetable}
@@ -22,11 +22,15 @@ module _ (S : System) where
   pub permitted-cart : (s : List ℕ) (c : ℕ) → Permitted S s c → c < carts S
   permitted-cart s c p = pos-inside (S .out) c (pos s c) (p .not-out)
 
-  pub permitted-stays : (s : List ℕ) (c d : ℕ) → c ≢ d → Permitted S s c → Permitted S (moved s d) c
-  permitted-stays s c d n p = record {
-    not-out = rw (moved-other s d c n) (p .not-out);
-    met = λ e h. rw (moved-other s d c n) (le-trans (p .met e h) (moved-up s d e));
+  -- what is permitted in s is permitted in a later state in which its cart has not moved
+  pub permitted-later : (s u : List ℕ) (c : ℕ) → s ≼ u → pos s c ≡ pos u c → Permitted S s c → Permitted S u c
+  permitted-later s u c h e p = record {
+    not-out = rw (← e) (p .not-out);
+    met = λ d l. rw (← e) (le-trans (p .met d l) (h d));
   }
+
+  pub permitted-stays : (s : List ℕ) (c d : ℕ) → c ≢ d → Permitted S s c → Permitted S (moved s d) c
+  permitted-stays s c d n = permitted-later s (moved s d) c (moved-up s d) (sym (moved-other s d c n))
 
   -- ---- the test
 
@@ -43,7 +47,8 @@ module _ (S : System) where
   pub permitted-test : (s : List ℕ) (c : ℕ) → Permitted S s c → isPermitted S s c ≡ true
   unfolding isPermitted
   permitted-test s c p =
-      rw (lt-ltb (pos s c) (pos (S .out) c) (p .not-out), none-any (isShort S s c (pos s c)) (carts S) (λ d h. le-ltb (pos s d) (S .need c (pos s c) d) (p .met d h)))
+      let none-short = none-any (isShort S s c (pos s c)) (carts S) (λ d h. le-ltb (pos s d) (S .need c (pos s c) d) (p .met d h)) in
+      rw (lt-ltb (pos s c) (pos (S .out) c) (p .not-out), none-short)
 
   -- ---- a cart that is held waits
 
@@ -56,7 +61,11 @@ module _ (S : System) where
   lowest-points s c h = go (lowest (isShort S s c (pos s c)) (carts S)) (lowest-is (isShort S s c (pos s c)) (carts S))
     where
       go : (o : Option ℕ) → IsLowest (isShort S s c (pos s c)) (carts S) o → Waits S s c (Option·getD o 0)
-      go none q = absurd (h .not-permitted (record { not-out = h .not-out; met = λ d l. ltb-false (pos s d) (S .need c (pos s c) d) (q d l) }))
+      go none q =
+          absurd (h .not-permitted (record {
+            not-out = h .not-out;
+            met = λ d l. ltb-false (pos s d) (S .need c (pos s c) d) (q d l);
+          }))
       go (some d) q = record { cart = q .0; short = ltb-true (pos s d) (S .need c (pos s c) d) (q .1) }
 
   pub held-waits : (s : List ℕ) (c : ℕ) → Held S s c → (d : ℕ) × Waits S s c d

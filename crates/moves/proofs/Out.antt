@@ -63,8 +63,12 @@ module _ (S : System) where
       isIn c = ltb (pos s c) (pos (S .out) c)
 
       go : (o : Option ℕ) → IsLowest isIn (carts S) o → (s ≡ S .out) ⊎ ((c : ℕ) × LowestNotOut S s c)
-      go none all = inl (ext-getD 0 s (S .out) (r .sized) λ c h. omega (arith, r .within c, ltb-false (pos s c) (pos (S .out) c) (all c (rw (r .sized) at h))))
-      go (some c) (l, is-in, lower) = inr (c, record { not-out = ltb-true _ _ is-in; lower-out = λ d h k. omega (arith, ltb-false (pos s d) (pos (S .out) d) (lower d h)) })
+      go none all = inl (ext-getD 0 s (S .out) (r .sized) same)
+        where
+          same : (c : ℕ) → c < length s → pos s c ≡ pos (S .out) c
+          same c h = omega (arith, r .within c, ltb-false (pos s c) (pos (S .out) c) (all c (rw (r .sized) at h)))
+      go (some c) (l, is-in, lower) =
+          inr (c, record { not-out = ltb-true _ _ is-in; lower-out = λ d h k. omega (arith, ltb-false (pos s d) (pos (S .out) d) (lower d h)) })
 
   pub lowest-not-out-unique : (s : List ℕ) (c d : ℕ) → LowestNotOut S s c → LowestNotOut S s d → c ≡ d
   lowest-not-out-unique s c d x y = go (decLt c d) (decLt d c)

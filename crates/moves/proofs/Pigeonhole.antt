@@ -58,5 +58,6 @@ two-same (suc n) f h = go (two-same n) (lowest (λ i. eqb (f i) v) (suc n)) (low
     go fewer (some i) q = (i, suc n, q .0, le-refl _, eqb-true (f i) v (q .1))
     go fewer none q =
         let other : (i : ℕ) → i < suc n → f i ≢ v = λ i l. eqb-false (f i) v (q i l) in
-        let (i, j, less, below, same) = fewer (λ i. instead n v (f i)) (λ i l. instead-below n v (f i) (other i l) (h i (omega arith)) (h (suc n) (le-refl _))) in
-        (i, j, less, omega arith, instead-same n v (f i) (f j) (other i (omega arith)) (other j below) same)
+        let below : (i : ℕ) → i < suc n → instead n v (f i) < n = λ i l. instead-below n v (f i) (other i l) (h i (omega arith)) (h (suc n) (le-refl _)) in
+        let (i, j, less, in-time, same) = fewer (λ i. instead n v (f i)) below in
+        (i, j, less, omega arith, instead-same n v (f i) (f j) (other i (omega arith)) (other j in-time) same)

@@ -1,5 +1,5 @@
 -- Following a rule of pointing: a cart repeats, and the ring that this gives is one and is computed. Nothing of moves is in it.
-use Prim.Native.Nat.{ℕ, zero, suc, _+_, _-_, _≤_, _<_}
+use Prim.Native.Nat.{ℕ, zero, suc, _+_, _-_, _≤_, _<_, zero-le}
 use mathlib.Core.Path.{_≡_, refl, sym, ap, _∙_}
 use mathlib.Core.Logic.{_≢_, _⊎_, inl, inr}
 use mathlib.Core.Bool.{Bool, true, false}
@@ -27,37 +27,35 @@ module _ (to : ℕ → ℕ) where
 
   -- ---- a cart repeats
 
-  -- n steps from c pass a cart twice: after `enter` steps, and again `turn` steps later
+  -- n steps from c pass a cart twice: after `enter` steps, and again `turn + 1` steps later
   pub record Repeats (n c : ℕ) : Type 0 where
     pub enter : ℕ
     pub turn : ℕ
-    pub some-turn : 0 < turn
-    pub in-time : enter + turn ≤ n
-    pub again : follow to turn (follow to enter c) ≡ follow to enter c
+    pub in-time : enter + turn < n
+    pub again : follow to (suc turn) (follow to enter c) ≡ follow to enter c
 
   pub follow-repeats : (n c : ℕ) → ((i : ℕ) → i ≤ n → follow to i c < n) → Repeats n c
   follow-repeats n c below =
       let (i, j, less, within, same) = two-same n (λ i. follow to i c) (λ i l. below i (omega arith)) in
-      let e : j - i + i ≡ j = omega arith in
-      record {
-        enter = i;
-        turn = j - i;
-        some-turn = omega arith;
-        in-time = omega arith;
-        again = follow-add (j - i) i c ∙ ap (λ (n : ℕ). follow to n c) e ∙ sym same;
-      }
+      let turn = j - i - 1 in
+      let e : suc turn + i ≡ j = omega arith in
+      record { enter = i; turn = turn; in-time = omega arith; again = follow-add (suc turn) i c ∙ ap (λ (n : ℕ). follow to n c) e ∙ sym same }
 
   -- ---- the entries of a ring
 
   -- the last cart of the ring points to the first
   pub leads-turn : (first c : ℕ) (rest : List ℕ) → Leads to first c rest → follow to (suc (length rest)) c ≡ first
   leads-turn first c [] l = l
-  leads-turn first c (d ∷ rest) l = sym (follow-to (suc (length rest)) c) ∙ ap (follow to (suc (length rest))) (l .0) ∙ leads-turn first d rest (l .2)
+  leads-turn first c (d ∷ rest) l =
+      sym (follow-to (suc (length rest)) c) ∙ ap (follow to (suc (length rest))) (l .0) ∙ leads-turn first d rest (l .2)
 
-  pub leads-entry : (first c : ℕ) (rest : List ℕ) → Leads to first c rest → (i : ℕ) → i < suc (length rest) → getD (c ∷ rest) i 0 ≡ follow to i c
+  -- and each other cart to the next
+  pub leads-entry : (first c : ℕ) (rest : List ℕ) → Leads to first c rest
+      → (i : ℕ) → i < suc (length rest) → getD (c ∷ rest) i 0 ≡ follow to i c
   leads-entry first c rest l zero h = refl
   leads-entry first c [] l (suc i) h = absurd (omega arith)
-  leads-entry first c (d ∷ rest) l (suc i) h = leads-entry first d rest (l .2) i (omega arith) ∙ ap (follow to i) (sym (l .0)) ∙ follow-to i c
+  leads-entry first c (d ∷ rest) l (suc i) h =
+      leads-entry first d rest (l .2) i (omega arith) ∙ ap (follow to i) (sym (l .0)) ∙ follow-to i c
 
   -- ---- there is only one
 
@@ -125,30 +123,35 @@ module _ (to : ℕ → ℕ) where
   least-on zero c = (0, refl)
   least-on (suc n) c = go (decLe c (leastFrom to n (to c))) (least-on n (to c))
     where
-      go : Dec (c ≤ leastFrom to n (to c)) → (i : ℕ) × (follow to i (to c) ≡ leastFrom to n (to c)) → (i : ℕ) × (follow to i c ≡ leastFrom to (suc n) c)
+      go : Dec (c ≤ leastFrom to n (to c)) → (i : ℕ) × (follow to i (to c) ≡ leastFrom to n (to c))
+          → (i : ℕ) × (follow to i c ≡ leastFrom to (suc n) c)
       go (yes h) q = (0, omega arith)
       go (no h) q = (suc (q .0), sym (follow-to (q .0) c) ∙ q .1 ∙ omega arith)
 
-  -- on a ring of k, any number of steps leads where less than k steps do
-  follow-within : (c k : ℕ) → 0 < k → follow to k c ≡ c → (n : ℕ) → (i : ℕ) × (i < k) × (follow to n c ≡ follow to i c)
-  follow-within c k h e zero = (0, h, refl)
-  follow-within c k h e (suc n) = go (follow-within c k h e n)
+  -- on a ring of k + 1, any number of steps leads where at most k steps do
+  follow-within : (c k : ℕ) → follow to (suc k) c ≡ c → (n : ℕ) → (i : ℕ) × (i ≤ k) × (follow to n c ≡ follow to i c)
+  follow-within c k e zero = (0, zero-le, refl)
+  follow-within c k e (suc n) = go (follow-within c k e n)
     where
-      go : (i : ℕ) × (i < k) × (follow to n c ≡ follow to i c) → (i : ℕ) × (i < k) × (follow to (suc n) c ≡ follow to i c)
+      go : (i : ℕ) × (i ≤ k) × (follow to n c ≡ follow to i c) → (i : ℕ) × (i ≤ k) × (follow to (suc n) c ≡ follow to i c)
       go (i, l, f) = by (eq-or-lt-of-le l)
         where
-          by : (suc i ≡ k) ⊎ (suc i < k) → (i : ℕ) × (i < k) × (follow to (suc n) c ≡ follow to i c)
-          by (inl g) = (0, h, ap to f ∙ ap (λ (n : ℕ). follow to n c) g ∙ e)
+          by : (i ≡ k) ⊎ (i < k) → (i : ℕ) × (i ≤ k) × (follow to (suc n) c ≡ follow to i c)
+          by (inl g) = (0, zero-le, ap to f ∙ ap (λ (j : ℕ). follow to (suc j) c) g ∙ e)
           by (inr g) = (suc i, g, ap to f)
 
-  between-leads : (first n c k : ℕ) → ((i : ℕ) → first ≤ follow to i c) → k ≤ n → follow to (suc k) c ≡ first → Leads to first c (between to first n c)
+  between-leads : (first n c k : ℕ) → ((i : ℕ) → first ≤ follow to i c) → k ≤ n → follow to (suc k) c ≡ first
+      → Leads to first c (between to first n c)
   unfolding between
   between-leads first zero c zero above l e = e
   between-leads first zero c (suc k) above l e = absurd (omega arith)
   between-leads first (suc n) c zero above l e = rw (eq-eqb (to c) first e, Leads) e
   between-leads first (suc n) c (suc k) above l e =
-      go (eqb (to c) first) refl (between-leads first n (to c) k (λ i. rw (follow-to i c) (above (suc i))) (omega arith) (follow-to (suc k) c ∙ e))
+      go (eqb (to c) first) refl (between-leads first n (to c) k above-next (omega arith) (follow-to (suc k) c ∙ e))
     where
+      above-next : (i : ℕ) → first ≤ follow to i (to c)
+      above-next i = rw (follow-to i c) (above (suc i))
+
       go : (b : Bool) → eqb (to c) first ≡ b → Leads to first (to c) (between to first n (to c))
           → Leads to first c (elim b [ true ↦ [] | false ↦ to c ∷ between to first n (to c) ])
       go true g later = eqb-true (to c) first g
@@ -161,11 +164,11 @@ module _ (to : ℕ → ℕ) where
   ring-computed n c p = record {
     far = a + n;
     comes = sym (follow-add a n c) ∙ on;
-    round = between-leads first n first (k - 1) above (omega (arith, p .some-turn, p .in-time)) (ap (λ (j : ℕ). follow to j first) k-suc ∙ turns);
+    round = between-leads first n first (p .turn) above (omega (arith, p .in-time)) turns;
   }
     where
       k : ℕ
-      k = p .turn
+      k = suc (p .turn)
 
       x : ℕ
       x = follow to n c
@@ -179,23 +182,23 @@ module _ (to : ℕ → ℕ) where
       on : follow to a x ≡ first
       on = least-on n x .1
 
-      k-suc : suc (k - 1) ≡ k
-      k-suc = omega (arith, p .some-turn)
+      left : ℕ
+      left = n - p .enter
 
-      rest : n - p .enter + p .enter ≡ n
-      rest = omega (arith, p .in-time)
+      entered : left + p .enter ≡ n
+      entered = omega (arith, p .in-time)
 
-      x-on : follow to (n - p .enter) (follow to (p .enter) c) ≡ x
-      x-on = follow-add (n - p .enter) (p .enter) c ∙ ap (λ (j : ℕ). follow to j c) rest
+      x-on : follow to left (follow to (p .enter) c) ≡ x
+      x-on = follow-add left (p .enter) c ∙ ap (λ (j : ℕ). follow to j c) entered
 
       x-turns : follow to k x ≡ x
-      x-turns = ap (follow to k) (sym x-on) ∙ follow-comm k (n - p .enter) (follow to (p .enter) c) ∙ ap (follow to (n - p .enter)) (p .again) ∙ x-on
+      x-turns = ap (follow to k) (sym x-on) ∙ follow-comm k left (follow to (p .enter) c) ∙ ap (follow to left) (p .again) ∙ x-on
 
       turns : follow to k first ≡ first
       turns = ap (follow to k) (sym on) ∙ follow-comm k a x ∙ ap (follow to a) x-turns ∙ on
 
       above : (i : ℕ) → first ≤ follow to i first
       above i =
-          let (j, l, e) = follow-within x k (p .some-turn) x-turns (i + a) in
+          let (j, l, e) = follow-within x (p .turn) x-turns (i + a) in
           let f : follow to i first ≡ follow to j x = ap (follow to i) (sym on) ∙ follow-add i a x ∙ e in
           rw f (least-le n x j (omega (arith, p .in-time)))

@@ -4,6 +4,7 @@ use mathlib.Core.Path.{_≡_, refl, sym, ap, _∙_}
 use mathlib.Core.Logic.{_≢_, _⊎_, inl, inr}
 use mathlib.Core.List.{List, [], _∷_}
 use native.Mathlib.Nat.{le-refl, le-of-suc-le-suc, not-suc-le-zero}
+use native.Mathlib.Decide.{decLt}
 use native.Mathlib.Omega.{arith}
 use lib.ListN.{length, set, replicate, length-set}
 use lib.Seq.{getD-set-same, getD-set-other, set-comm, ext-getD}
@@ -41,6 +42,15 @@ moved-cases (x ∷ xs) (suc c) (suc d) = go (moved-cases xs c d)
     go : Change xs c d → Change (x ∷ xs) (suc c) (suc d)
     go (inl e) = inl e
     go (inr e) = inr (ap suc (e .0), e .1)
+
+-- a move that is counted after a move of x was counted before, or is that move
+pub moved-counts : (s : List ℕ) (x c p : ℕ) → p < pos (moved s x) c → (p < pos s c) ⊎ ((c ≡ x) × (p ≡ pos s x))
+moved-counts s x c p h = go (moved-cases s x c) (decLt p (pos s c))
+  where
+    go : Change s x c → Dec (p < pos s c) → (p < pos s c) ⊎ ((c ≡ x) × (p ≡ pos s x))
+    go e (yes b) = inl b
+    go (inl e) (no b) = absurd (b (omega arith))
+    go (inr e) (no b) = inr (e .0, omega (arith, ap (pos s) (e .0)))
 
 -- a move takes no cart back
 pub moved-up : (s : List ℕ) (c : ℕ) → s ≼ moved s c

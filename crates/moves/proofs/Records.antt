@@ -1,6 +1,6 @@
 -- The records that runs reach are the closed ones in range; and the tests of both.
 use Prim.Native.Nat.{ℕ, _≤_, _<_}
-use mathlib.Core.Path.{_≡_, ap}
+use mathlib.Core.Path.{_≡_}
 use mathlib.Core.Logic.{_↔_, _⊎_, inl, inr}
 use mathlib.Core.Bool.{true, false, not}
 use mathlib.Core.List.{List, [], _∷_}
@@ -15,9 +15,9 @@ use Rattle.moves.specs.System.{System, carts, pos, start, InRange}
 use Rattle.moves.specs.Moves.{moved, Permitted, isShort}
 use Rattle.moves.specs.Runs.{after, Run, Reaches, AllComeOut}
 use Rattle.moves.specs.Records.{Reached, Closed, isInRange, isClosed}
-use Rattle.moves.specs.Cycles.{Before, Chain, direct, onward, Cycle}
+use Rattle.moves.specs.Cycles.{Before, Chain, just, then, Cycle}
 use Rattle.moves.proofs.Tests.{and-both, any-none, none-any}
-use Rattle.moves.proofs.Positions.{pos-inside, Change, moved-cases, moved-up, zeros-pos}
+use Rattle.moves.proofs.Positions.{pos-inside, moved-counts, moved-up, zeros-pos}
 use Rattle.moves.proofs.Runs.{start-in-range, reaches-in-range}
 use Rattle.moves.proofs.Ranks.{out-ranked, ranked-no-cycle}
 use Rattle.moves.proofs.Cycles.{out-or-cycle}
@@ -29,14 +29,11 @@ module _ (S : System) where
   start-closed c p d h l = absurd (not-suc-le-zero (rw (zeros-pos (carts S) c) at h))
 
   pub moved-closed : (s : List ℕ) (c : ℕ) → Closed S s → Permitted S s c → Closed S (moved s c)
-  moved-closed s x closed m c p d h l = go (moved-cases s x c) (decLt p (pos s c))
+  moved-closed s x closed m c p d h l = go (moved-counts s x c p h)
     where
-      go : Change s x c → Dec (p < pos s c) → S .need c p d ≤ pos (moved s x) d
-      go e (yes b) = le-trans (closed c p d b l) (moved-up s x d)
-      go (inl e) (no b) = absurd (b (omega arith))
-      go (inr e) (no b) =
-          let at : p ≡ pos s x = omega (arith, ap (pos s) (e .0)) in
-          rw (e .0, at) (le-trans (m .met d l) (moved-up s x d))
+      go : (p < pos s c) ⊎ ((c ≡ x) × (p ≡ pos s x)) → S .need c p d ≤ pos (moved s x) d
+      go (inl before) = le-trans (closed c p d before l) (moved-up s x d)
+      go (inr (cart, at)) = rw (cart, at) (le-trans (m .met d l) (moved-up s x d))
 
   run-closed : (s run : List ℕ) → Closed S s → Run S s run → Closed S (after s run)
   run-closed s [] closed l = closed
@@ -45,7 +42,7 @@ module _ (S : System) where
   pub reaches-closed : (s t : List ℕ) → Closed S s → Reaches S s t → Closed S t
   reaches-closed s t closed x = rw (← x .ends) (run-closed s (x .run) closed (x .is-run))
 
-  -- ---- what is closed is reached: the system that goes no further than t runs out
+  -- ---- what is closed is reached: by the system whose carts go no further
 
   module _ (t : List ℕ) (r : InRange S t) where
     abbrev upTo : System
@@ -66,8 +63,8 @@ module _ (S : System) where
     }
 
     upto-chain : {d q c p : ℕ} → Chain upTo d q c p → Chain S d q c p
-    upto-chain (direct b) = direct (upto-before b)
-    upto-chain (onward x b) = onward (upto-chain x) (upto-before b)
+    upto-chain (just b) = just (upto-before b)
+    upto-chain (then x b) = then (upto-chain x) (upto-before b)
 
     pub closed-reached : AllComeOut S (start S) → Closed S t → Reached S t
     closed-reached all closed = go (out-or-cycle upTo (λ c p d h l. closed c p d h (rw (r .sized) at l)))
@@ -80,6 +77,7 @@ module _ (S : System) where
         }
         go (inr (c, p, z)) = absurd (ranked-no-cycle S (out-ranked S all) (c, p, upto-chain z))
 
+  -- no search is needed: the record itself tells
   pub reached-iff : (t : List ℕ) → AllComeOut S (start S) → Reached S t ↔ (InRange S t × Closed S t)
   reached-iff t all = (
     λ x. (reaches-in-range S (start S) t (start-in-range S) x, reaches-closed (start S) t start-closed x),
@@ -94,23 +92,25 @@ module _ (S : System) where
       let both = and-both (eqb (length s) (carts S)) (not (anyBelow (λ c. ltb (pos (S .out) c) (pos s c)) (carts S))) e in
       let sized : length s ≡ carts S = eqb-true _ _ (both .0) in
       let below = any-none (λ c. ltb (pos (S .out) c) (pos s c)) (carts S) (not-true _ (both .1)) in
-      record { sized = sized; within = λ c. go sized below c (decLt c (carts S)) }
+      record { sized = sized; within = λ c. go c sized (below c) (decLt c (carts S)) }
     where
-      go : length s ≡ carts S → ((c : ℕ) → c < carts S → ltb (pos (S .out) c) (pos s c) ≡ false) → (c : ℕ) → Dec (c < carts S) → pos s c ≤ pos (S .out) c
-      go sized below c (yes h) = ltb-false _ _ (below c h)
-      go sized below c (no h) = omega (arith, List·getD-eq-default s 0 {n = c} (omega arith))
+      go : (c : ℕ) → length s ≡ carts S → (c < carts S → ltb (pos (S .out) c) (pos s c) ≡ false) → Dec (c < carts S) → pos s c ≤ pos (S .out) c
+      go c sized below (yes h) = ltb-false _ _ (below h)
+      go c sized below (no h) = omega (arith, List·getD-eq-default s 0 {n = c} (omega arith))
 
   pub in-range-test : (s : List ℕ) → InRange S s → isInRange S s ≡ true
   unfolding isInRange
   in-range-test s r =
-      rw (eq-eqb (length s) (carts S) (r .sized), none-any (λ c. ltb (pos (S .out) c) (pos s c)) (carts S) (λ c h. le-ltb (pos (S .out) c) (pos s c) (r .within c)))
+      let none-past = none-any (λ c. ltb (pos (S .out) c) (pos s c)) (carts S) (λ c h. le-ltb (pos (S .out) c) (pos s c) (r .within c)) in
+      rw (eq-eqb (length s) (carts S) (r .sized), none-past)
 
   pub test-closed : (s : List ℕ) → length s ≡ carts S → isClosed S s ≡ true → Closed S s
   unfolding isClosed
   test-closed s z e c p d h l =
-      let none = any-none (λ c. anyBelow (λ p. anyBelow (isShort S s c p) (carts S)) (pos s c)) (carts S) (not-true _ e) c (rw z at (pos-inside s c p h)) in
-      let none-of-c = any-none (λ p. anyBelow (isShort S s c p) (carts S)) (pos s c) none p h in
-      ltb-false (pos s d) (S .need c p d) (any-none (isShort S s c p) (carts S) none-of-c d l)
+      let inside : c < carts S = rw z at (pos-inside s c p h) in
+      let of-c = any-none (λ c. anyBelow (λ p. anyBelow (isShort S s c p) (carts S)) (pos s c)) (carts S) (not-true _ e) c inside in
+      let of-p = any-none (λ p. anyBelow (isShort S s c p) (carts S)) (pos s c) of-c p h in
+      ltb-false (pos s d) (S .need c p d) (any-none (isShort S s c p) (carts S) of-p d l)
 
   pub closed-test : (s : List ℕ) → Closed S s → isClosed S s ≡ true
   unfolding isClosed

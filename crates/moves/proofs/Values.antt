@@ -1,11 +1,10 @@
 -- A rule that looks back has one solution, which any run that brings all out works out.
 use Prim.Native.Nat.{ℕ, _<_}
 use mathlib.Core.Path.{_≡_, refl, sym, ap, _∙_}
-use mathlib.Core.Logic.{inl, inr}
+use mathlib.Core.Logic.{_⊎_, inl, inr}
 use mathlib.Core.Bool.{Bool, true, false, _&&_}
 use mathlib.Core.List.{List, [], _∷_}
 use native.Mathlib.Nat.{le-trans, not-suc-le-zero}
-use native.Mathlib.Decide.{decLt}
 use native.Mathlib.Omega.{arith}
 use lib.Dec.{eqb}
 use borrow.Author.Tests.{eqb-true, eq-eqb}
@@ -16,7 +15,7 @@ use Rattle.moves.specs.Runs.{after, Run, AllComeOut}
 use Rattle.moves.specs.Records.{Closed}
 use Rattle.moves.specs.Values.{put, LooksBack, Solves, workedOut}
 use Rattle.moves.proofs.Tests.{and-both}
-use Rattle.moves.proofs.Positions.{Change, moved-cases, zeros-pos}
+use Rattle.moves.proofs.Positions.{moved-counts, zeros-pos}
 use Rattle.moves.proofs.Runs.{start-in-range, moved-in-range}
 use Rattle.moves.proofs.Before.{permitted-before, closed-before}
 use Rattle.moves.proofs.Ranks.{move-induction}
@@ -37,30 +36,29 @@ module _ {A : Type 0} (t : ℕ → ℕ → A) (c p : ℕ) (value : A) where
       go true e = let both = and-both (eqb d c) (eqb q p) e in absurd (n (eqb-true d c (both .0), eqb-true q p (both .1)))
       go false e = refl
 
-module _ {A : Type 0} (S : System) (rule : (ℕ → ℕ → A) → ℕ → ℕ → A) (back : LooksBack rule S) where
+module _ {A : Type 0} (S : System) (rule : (ℕ → ℕ → A) → ℕ → ℕ → A) (back : LooksBack S rule) where
   pub solves-unique : AllComeOut S (start S) → (t u : ℕ → ℕ → A) → Solves rule (S .out) t → Solves rule (S .out) u
       → (c p : ℕ) → IsMove S c p → t c p ≡ u c p
-  solves-unique all t u st su = move-induction S (λ c p. t c p ≡ u c p) (λ c p m before. st c p m ∙ back t u c p m before ∙ sym (su c p m)) all
+  solves-unique all t u st su = move-induction S all (λ c p. t c p ≡ u c p) (λ c p m before. st c p m ∙ back t u c p m before ∙ sym (su c p m))
 
   -- a permitted move with the rule's value, and the values of the moves made before kept
   pub moved-solves : (s : List ℕ) (x : ℕ) → s ≼ S .out → Closed S s → Permitted S s x → (t u : ℕ → ℕ → A) → Solves rule s t
       → ((c p : ℕ) → p < pos s c → t c p ≡ u c p) → u x (pos s x) ≡ rule t x (pos s x) → Solves rule (moved s x) u
-  moved-solves s x within closed m t u st kept new c p h = go (moved-cases s x c) (decLt p (pos s c))
+  moved-solves s x within closed m t u st kept new c p h = go (moved-counts s x c p h)
     where
       here : u x (pos s x) ≡ rule u x (pos s x)
       here = new ∙ back t u x (pos s x) (m .not-out) (λ d q b. kept d q (permitted-before S s x m d q b))
 
-      go : Change s x c → Dec (p < pos s c) → u c p ≡ rule u c p
-      go e (yes i) = sym (kept c p i) ∙ st c p i ∙ back t u c p (le-trans i (within c)) (λ d q b. kept d q (closed-before S s closed c p i d q b))
-      go (inl e) (no i) = absurd (i (omega arith))
-      go (inr e) (no i) =
-          let at : p ≡ pos s x = omega (arith, ap (pos s) (e .0)) in
-          rw (e .0, at) here
+      go : (p < pos s c) ⊎ ((c ≡ x) × (p ≡ pos s x)) → u c p ≡ rule u c p
+      go (inl i) = sym (kept c p i) ∙ st c p i ∙ back t u c p (le-trans i (within c)) (λ d q b. kept d q (closed-before S s closed c p i d q b))
+      go (inr (cart, at)) = rw (cart, at) here
 
-  run-solves : (s run : List ℕ) → InRange S s → Closed S s → Run S s run → (t : ℕ → ℕ → A) → Solves rule s t → Solves rule (after s run) (workedOut rule t s run)
+  run-solves : (s run : List ℕ) → InRange S s → Closed S s → Run S s run → (t : ℕ → ℕ → A) → Solves rule s t
+      → Solves rule (after s run) (workedOut rule t s run)
   unfolding workedOut
   run-solves s [] r closed l t st = st
-  run-solves s (x ∷ run) r closed l t st = run-solves (moved s x) run (moved-in-range S s x r (l .0)) (moved-closed S s x closed (l .0)) (l .1) u next
+  run-solves s (x ∷ run) r closed l t st =
+      run-solves (moved s x) run (moved-in-range S s x r (l .0)) (moved-closed S s x closed (l .0)) (l .1) u next
     where
       u : ℕ → ℕ → A
       u = put t x (pos s x) (rule t x (pos s x))

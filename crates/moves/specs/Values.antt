@@ -1,4 +1,4 @@
--- Values for the moves, one of each, given by a rule that looks back: "Work in the order of the moves".
+-- A value for each move, by a rule that looks back: "Work in the order of the moves".
 use Prim.Native.Nat.{ℕ, _<_}
 use mathlib.Core.Path.{_≡_}
 use mathlib.Core.Bool.{_&&_}
@@ -14,17 +14,16 @@ module _ {A : Type 0} where
   unfoldable pub put : (ℕ → ℕ → A) → ℕ → ℕ → A → ℕ → ℕ → A
   put t c p value d q = pick (eqb d c && eqb q p) value (t d q)
 
-  module _ (rule : (ℕ → ℕ → A) → ℕ → ℕ → A) where
-    -- the rule looks only at the moves right before
-    abbrev pub LooksBack : System → Type 0
-    LooksBack S =
-        (t u : ℕ → ℕ → A) (c p : ℕ) → IsMove S c p → ((d q : ℕ) → Before S d q c p → t d q ≡ u d q) → rule t c p ≡ rule u c p
+  -- the rule looks only at the moves right before
+  abbrev pub LooksBack : System → ((ℕ → ℕ → A) → ℕ → ℕ → A) → Type 0
+  LooksBack S rule =
+      (t u : ℕ → ℕ → A) (c p : ℕ) → IsMove S c p → ((d q : ℕ) → Before S d q c p → t d q ≡ u d q) → rule t c p ≡ rule u c p
 
-    -- t has the rule's value at each move that state s counts
-    abbrev pub Solves : List ℕ → (ℕ → ℕ → A) → Type 0
-    Solves s t = (c p : ℕ) → p < pos s c → t c p ≡ rule t c p
+  -- t has the rule's value at each move that state s counts
+  abbrev pub Solves : ((ℕ → ℕ → A) → ℕ → ℕ → A) → List ℕ → (ℕ → ℕ → A) → Type 0
+  Solves rule s t = (c p : ℕ) → p < pos s c → t c p ≡ rule t c p
 
-    -- the rule's values, worked out move by move along a run from s
-    unfoldable pub workedOut : (ℕ → ℕ → A) → List ℕ → List ℕ → ℕ → ℕ → A
-    workedOut t s [] = t
-    workedOut t s (c ∷ run) = workedOut (put t c (pos s c) (rule t c (pos s c))) (moved s c) run
+  -- the rule's values, worked out move by move along a run from s, whatever t was
+  unfoldable pub workedOut : ((ℕ → ℕ → A) → ℕ → ℕ → A) → (ℕ → ℕ → A) → List ℕ → List ℕ → ℕ → ℕ → A
+  workedOut rule t s [] = t
+  workedOut rule t s (c ∷ run) = workedOut rule (put t c (pos s c) (rule t c (pos s c))) (moved s c) run

@@ -22,3 +22,8 @@ entries (suc n) i rule = rule i ∷ entries n (i + 1) rule
 unfoldable pub each : {A : Type 0} → ℕ → ℕ → (ℕ → List A) → List A
 each zero i rule = []
 each (suc n) i rule = rule i ++ each n (i + 1) rule
+
+-- a statement holds of every entry
+abbrev pub All : {A : Type 0} → (A → Type 0) → List A → Type 0
+All P [] = Unit {0}
+All P (a ∷ l) = P a × All P l

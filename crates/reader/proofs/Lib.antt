@@ -1,0 +1,3 @@
+pub mod ScanLaws
+pub mod Tables
+pub mod Agrees

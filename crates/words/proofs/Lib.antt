@@ -1,0 +1,6 @@
+pub mod Any
+pub mod Entries
+pub mod All
+pub mod First
+pub mod Tests
+pub mod Says

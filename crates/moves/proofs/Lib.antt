@@ -1,4 +1,4 @@
-pub mod Tests
+pub mod Search
 pub mod Positions
 pub mod Moves
 pub mod Runs

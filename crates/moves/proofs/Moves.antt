@@ -1,21 +1,22 @@
--- A permitted move stays permitted while other carts move; a held cart waits for some cart; and the tests.
+-- A permitted move stays permitted while other carts move, its test says so, and a held cart waits for some cart.
 use Prim.Native.Nat.{ℕ, _<_}
 use mathlib.Core.Path.{_≡_, sym}
-use mathlib.Core.Logic.{_≢_}
+use mathlib.Core.Logic.{_≢_, _↔_}
 use mathlib.Core.Bool.{true, not}
 use mathlib.Core.Option.{Option, none, some, Option·getD}
 use mathlib.Core.List.{List}
 use native.Mathlib.Nat.{le-trans}
 use native.Mathlib.Omega.{arith}
 use lib.Dec.{ltb}
-use borrow.Author.Tests.{ltb-true, ltb-false, lt-ltb, le-ltb, not-true}
+use borrow.Author.Tests.{ltb-true, ltb-false}
 use Rattle.words.specs.Lists.{anyBelow}
+use Rattle.words.proofs.Tests.{ltb-says, and-says, none-says}
 use Rattle.moves.specs.System.{System, carts, pos, _≼_}
 use Rattle.moves.specs.Search.{lowest, IsLowest}
 use Rattle.moves.specs.Moves.{moved, NotOut, Permitted, Held, Waits, isShort, isPermitted}
 use Rattle.moves.specs.Records.{Meetable}
 use Rattle.moves.specs.Rings.{Points}
-use Rattle.moves.proofs.Tests.{and-both, any-none, none-any, lowest-is}
+use Rattle.moves.proofs.Search.{lowest-is}
 use Rattle.moves.proofs.Positions.{pos-inside, moved-other, moved-up}
 
 module _ (S : System) where
@@ -32,23 +33,21 @@ module _ (S : System) where
   pub permitted-stays : (s : List ℕ) (c d : ℕ) → c ≢ d → Permitted S s c → Permitted S (moved s d) c
   permitted-stays s c d n = permitted-later s (moved s d) c (moved-up s d) (sym (moved-other s d c n))
 
-  -- ---- the test
-
-  pub test-permitted : (s : List ℕ) (c : ℕ) → isPermitted S s c ≡ true → Permitted S s c
+  -- what the test says
+  pub permitted-says : (s : List ℕ) (c : ℕ) → (isPermitted S s c ≡ true) ↔ Permitted S s c
   unfolding isPermitted
-  test-permitted s c e =
-      let both = and-both (ltb (pos s c) (pos (S .out) c)) (not (anyBelow (isShort S s c (pos s c)) (carts S))) e in
-      let none-short = any-none (isShort S s c (pos s c)) (carts S) (not-true _ (both .1)) in
-      record {
-        not-out = ltb-true _ _ (both .0);
-        met = λ d h. ltb-false (pos s d) (S .need c (pos s c) d) (none-short d h);
-      }
+  permitted-says s c = (
+    λ e. record { not-out = says .0 e .0; met = λ d h. omega (arith, says .0 e .1 d h) },
+    λ p. says .1 (p .not-out, λ d h short. omega (arith, p .met d h)),
+  )
+    where
+      Short : ℕ → Type 0
+      Short d = pos s d < S .need c (pos s c) d
 
-  pub permitted-test : (s : List ℕ) (c : ℕ) → Permitted S s c → isPermitted S s c ≡ true
-  unfolding isPermitted
-  permitted-test s c p =
-      let none-short = none-any (isShort S s c (pos s c)) (carts S) (λ d h. le-ltb (pos s d) (S .need c (pos s c) d) (p .met d h)) in
-      rw (lt-ltb (pos s c) (pos (S .out) c) (p .not-out), none-short)
+      says : (isPermitted S s c ≡ true) ↔ (NotOut S s c × ((d : ℕ) → d < carts S → Short d → ⊥))
+      says =
+          and-says (ltb (pos s c) (pos (S .out) c)) (not (anyBelow (isShort S s c (pos s c)) (carts S))) (ltb-says _ _)
+          (none-says (isShort S s c (pos s c)) (carts S) Short (λ d. ltb-says _ _))
 
   -- ---- a cart that is held waits
 

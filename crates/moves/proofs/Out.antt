@@ -16,7 +16,7 @@ use Rattle.moves.specs.Search.{lowest, IsLowest}
 use Rattle.moves.specs.Moves.{NotOut, Permitted}
 use Rattle.moves.specs.Rings.{LowestNotOut}
 use Rattle.moves.specs.Runs.{after, Run, Reaches, AllComeOut, Stuck, end}
-use Rattle.moves.proofs.Tests.{lowest-is}
+use Rattle.moves.proofs.Search.{lowest-is}
 use Rattle.moves.proofs.Positions.{zeros-sum}
 use Rattle.moves.proofs.Runs.{start-in-range, reaches-in-range, reaches-trans, run-sum}
 use Rattle.moves.proofs.Ends.{stuck-unique, end-reached, end-stuck}

@@ -7,14 +7,14 @@ use mathlib.Core.List.{List, [], _∷_}
 use native.Mathlib.Nat.{le-trans, not-suc-le-zero}
 use native.Mathlib.Omega.{arith}
 use lib.Dec.{eqb}
-use borrow.Author.Tests.{eqb-true, eq-eqb}
+use borrow.Author.Tests.{eq-eqb}
 use Rattle.words.specs.Lists.{pick}
+use Rattle.words.proofs.Tests.{eqb-says, and-says}
 use Rattle.moves.specs.System.{System, carts, pos, start, _≼_, InRange}
 use Rattle.moves.specs.Moves.{moved, IsMove, Permitted}
 use Rattle.moves.specs.Runs.{after, Run, AllComeOut}
 use Rattle.moves.specs.Records.{Closed}
 use Rattle.moves.specs.Values.{put, LooksBack, Solves, workedOut}
-use Rattle.moves.proofs.Tests.{and-both}
 use Rattle.moves.proofs.Positions.{moved-counts, zeros-pos}
 use Rattle.moves.proofs.Runs.{start-in-range, moved-in-range}
 use Rattle.moves.proofs.Before.{permitted-before, closed-before}
@@ -33,7 +33,7 @@ module _ {A : Type 0} (t : ℕ → ℕ → A) (c p : ℕ) (value : A) where
   put-other d q n = go (eqb d c && eqb q p) refl
     where
       go : (b : Bool) → (eqb d c && eqb q p) ≡ b → pick b value (t d q) ≡ t d q
-      go true e = let both = and-both (eqb d c) (eqb q p) e in absurd (n (eqb-true d c (both .0), eqb-true q p (both .1)))
+      go true e = absurd (n (and-says (eqb d c) (eqb q p) (eqb-says d c) (eqb-says q p) .0 e))
       go false e = refl
 
 module _ {A : Type 0} (S : System) (rule : (ℕ → ℕ → A) → ℕ → ℕ → A) (back : LooksBack S rule) where

@@ -1,0 +1,16 @@
+pub mod Search
+pub mod Positions
+pub mod Moves
+pub mod Runs
+pub mod Ends
+pub mod Out
+pub mod Pigeonhole
+pub mod Pointing
+pub mod Rings
+pub mod Before
+pub mod Ranks
+pub mod Cycles
+pub mod Records
+pub mod Values
+pub mod Looser
+pub mod Examples

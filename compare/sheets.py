@@ -3,7 +3,7 @@
 
 sheets.py show FILE      prints what the program sheet_main must print for the sheet in FILE
 sheets.py lines FILE     prints what the program vectors must print for FILE, a text with one sheet a line
-sheets.py check VECTORS  compares the stored output of crates/vectors, then runs the program VECTORS on random sheets
+sheets.py check VECTORS  compares the stored output of both, then runs the program VECTORS on random sheets
 """
 import os
 import random
@@ -12,8 +12,7 @@ import subprocess
 import sys
 import tempfile
 
-HERE = os.path.dirname(os.path.abspath(__file__))
-CRATE = os.path.join(HERE, '..', 'crates', 'vectors')
+ROOT = os.path.dirname(os.path.dirname(os.path.abspath(__file__)))
 
 
 class Refused(Exception):
@@ -59,23 +58,30 @@ def read_cart(fields, zone_count):
     return {'lane': lane, 'arrival': arrival, 'place': place, 'route': route}
 
 
+def read_gaps(fields):
+    follow = fields.take_within(2, 0, 60000, 5)
+    cross = fields.take_within(2, 0, 60000, 5)
+    return follow, cross
+
+
+def check_arrivals(carts):
+    for number, cart in enumerate(carts):
+        for lower in carts[:number]:
+            if lower['lane'] == cart['lane'] and cart['arrival'] < lower['arrival']:
+                raise Refused(14, cart['place'])
+
+
 def read_all(sheet):
     fields = Fields(sheet)
     fields.take_within(1, 1, 1, 2)
     fields.take_within(2, len(sheet), len(sheet), 3)
     zone_count = fields.take_within(1, 1, 24, 4)
-    gaps = []
-    for _ in range(zone_count):
-        follow = fields.take_within(2, 0, 60000, 5)
-        gaps.append((follow, fields.take_within(2, 0, 60000, 5)))
+    gaps = [read_gaps(fields) for _ in range(zone_count)]
     cart_count = fields.take_within(1, 0, 16, 6)
     carts = [read_cart(fields, zone_count) for _ in range(cart_count)]
     if fields.next < len(sheet):
         raise Refused(13, fields.next)
-    for number, cart in enumerate(carts):
-        for lower in carts[:number]:
-            if lower['lane'] == cart['lane'] and cart['arrival'] < lower['arrival']:
-                raise Refused(14, cart['place'])
+    check_arrivals(carts)
     return gaps, carts
 
 
@@ -108,8 +114,9 @@ def sheets_of(text):
     """Line number, sheet and the line above, for each sheet of a text with one sheet a line in hexadecimal."""
     above = ''
     for number, line in enumerate(text.split('\n'), 1):
-        if line.strip() and not line.startswith('#'):
-            yield number, b'' if line.strip() == '-' else bytes.fromhex(line), above
+        digits = line.split('#')[0].strip()
+        if digits:
+            yield number, b'' if digits == '-' else bytes.fromhex(digits), above
         above = line
 
 
@@ -258,32 +265,41 @@ def read_text(path):
         return file.read()
 
 
-def first_difference(wanted, got, what):
-    """Ends the program where the lines that document 01 wants are not those that we got."""
+def read_bytes(path):
+    with open(path, 'rb') as file:
+        return file.read()
+
+
+def first_difference(wanted, text, what):
+    """Ends the program where a text does not have the lines that document 01 wants."""
     line = ''
-    for want, have in zip(wanted + ['nothing more'], got + ['nothing more']):
+    for want, have in zip(wanted + ['', 'no more'], text.split('\n') + ['no more']):
         line = want if want.startswith('line ') else line
         if want != have:
             sys.exit('%s: %s expected %r, got %r' % (what, line, want, have))
 
 
+def check_comment(number, sheet, above):
+    """The comment above a stored sheet says what was expected of it by hand."""
+    said = re.match(r'# (?:done|(\d+) at (\d+)): ', above)
+    if not said or [int(said[1] or 0), int(said[2] or 0)] != list(read(sheet)[:2]):
+        sys.exit('sheets.txt, line %d: document 01 gives %r, the line above is %r' % (number, shown(sheet)[0], above))
+
+
 def check_stored():
-    text = read_text(os.path.join(CRATE, 'data', 'sheets.txt'))
-    count = 0
+    os.chdir(ROOT)
+    first_difference(shown(read_bytes('examples/S.sheet')), read_text('crates/sheet_main/stdout'), 'crates/sheet_main/stdout')
+    if read_bytes('examples/S.sheet') != read_bytes('crates/sheet_main/stdin'):
+        sys.exit('crates/sheet_main/stdin is not examples/S.sheet')
+    text = read_text('crates/vectors/data/sheets.txt')
     for number, sheet, above in sheets_of(text):
-        said = re.match(r'# (?:(done)|(\d+) at (\d+)): ', above)
-        if not said:
-            sys.exit('sheets.txt, line %d: the line above does not say what is given' % number)
-        if read(sheet)[:2] != ((0, 0) if said[1] else (int(said[2]), int(said[3]))):
-            sys.exit('sheets.txt, line %d: the comment says %s, document 01 %s' % (number, said[0], shown(sheet)[0]))
-        count += 1
-    stored = read_text(os.path.join(CRATE, 'stdout'))
-    first_difference(expected(text) + [''], stored.split('\n'), 'crates/vectors/stdout')
-    print('stored: %d sheets as expected' % count)
+        check_comment(number, sheet, above)
+    first_difference(expected(text), read_text('crates/vectors/stdout'), 'crates/vectors/stdout')
+    print('stored: %d sheets as expected' % len(list(sheets_of(text))))
 
 
-def check_random(program):
-    sheets = list(random_sheets())
+def run(program, sheets):
+    """What the program vectors prints for these sheets, one a line."""
     with tempfile.TemporaryDirectory() as room:
         path = os.path.join(room, 'sheets.txt')
         with open(path, 'w') as file:
@@ -291,13 +307,17 @@ def check_random(program):
         with open(os.path.join(room, 'stdout'), 'w+') as out:
             subprocess.run([program, path], stdout=out, check=True)
             out.seek(0)
-            got = out.read()
+            return out.read()
+
+
+def check_random(program):
+    sheets = list(random_sheets())
     wanted = []
     for number, sheet in enumerate(sheets, 1):
         wanted += ['line %d:' % number] + shown(sheet)
-    first_difference(wanted + [''], got.split('\n'), program)
-    seen = [read(sheet)[0] for sheet in sheets]
+    first_difference(wanted, run(program, sheets), program)
     print('random: %d sheets, %d lines as expected' % (len(sheets), len(wanted)))
+    seen = [read(sheet)[0] for sheet in sheets]
     for number in range(15):
         print('number %2d: %5d' % (number, seen.count(number)))
         if number not in seen:
@@ -306,13 +326,13 @@ def check_random(program):
 
 def main(words):
     if words[:1] == ['show'] and len(words) == 2:
-        with open(words[1], 'rb') as file:
-            print('\n'.join(shown(file.read())))
+        print('\n'.join(shown(read_bytes(words[1]))))
     elif words[:1] == ['lines'] and len(words) == 2:
         print('\n'.join(expected(read_text(words[1]))))
     elif words[:1] == ['check'] and len(words) == 2:
+        program = os.path.abspath(words[1])
         check_stored()
-        check_random(words[1])
+        check_random(program)
     else:
         sys.exit(__doc__)
 

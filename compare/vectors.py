@@ -16,17 +16,18 @@ def byte_count(text):
     return len(bytes.fromhex(text))
 
 
+def first_bytes(text, count):
+    """The part of a text in hexadecimal that holds its first bytes."""
+    ends = [end for end in range(len(text) + 1) if len(text[:end].replace(' ', '')) == 2 * count]
+    return text[:ends[0]]
+
+
 def sheet(*parts, cut=None, length=None):
     """Version, length and the parts; only the first `cut` bytes, under the length that is left or the one given."""
-    text = '01 LLLL ' + '  '.join(part for part in parts if part)
+    text = '01 0000 ' + '  '.join(parts)
     if cut is not None:
-        kept = ''
-        for c in text:
-            if len(kept.replace(' ', '')) < 2 * cut:
-                kept += c
-        text = kept
-    count = byte_count(text.replace('LLLL', '0000'))
-    return text.replace('LLLL', '%04X' % (count if length is None else length)).strip()
+        text = first_bytes(text, cut)
+    return '01 %04X' % (byte_count(text) if length is None else length) + text[7:].rstrip()
 
 
 def step(zone=0, passing=0, travel=0):
@@ -53,6 +54,11 @@ def one_cart(*route, n=2, count=None, cut=None):
     return sheet(zones(n), '01', cart(route=list(route), count=count), cut=cut)
 
 
+def longest(*after, cut=None):
+    """The longest sheet, every value as small as it can be."""
+    return sheet(zones(24), '10', *[cart(route=[step(z) for z in range(8)])] * 16, *after, cut=cut)
+
+
 def group(title):
     print('\n# ---- %s ----' % title)
 
@@ -70,9 +76,7 @@ def whole_sheets():
     done('document 01\'s sheet S', sheet(*S))
     done('the shortest sheet, 9 bytes: one zone, no cart', sheet(zones(1), '00'))
     done('one cart with one step, every value 0', one_zone(cart()))
-    route = [step(z) for z in range(8)]
-    done('the longest sheet, 837 bytes, with every value as small as it can be',
-         sheet(zones(24), '10', *[cart(0, 0, route)] * 16))
+    done('the longest sheet, 837 bytes, with every value as small as it can be', longest())
     route = [step(z, 60000, 60000) for z in range(16, 23)] + [step(23, 60000, 0)]
     done('the longest sheet, 837 bytes, with every value as large as it can be',
          sheet(zones(24, 'EA60 EA60'), '10', *[cart(15, 3600000, route)] * 16))
@@ -99,8 +103,7 @@ def cuts():
             refused(1, place, why, sheet(*whole, cut=place + there))
     done('the sheet that was cut above, whole', sheet(*whole))
     refused(1, 43, 'S without its last byte', sheet(*S, cut=44))
-    route = [step(z) for z in range(8)]
-    refused(1, 835, 'the longest sheet without its last byte', sheet(zones(24), '10', *[cart(0, 0, route)] * 16, cut=836))
+    refused(1, 835, 'the longest sheet without its last byte', longest(cut=836))
 
 
 def versions():
@@ -240,8 +243,7 @@ def bytes_after():
     refused(13, 45, 'a byte after S', sheet(*S, '01'))
     refused(13, 9, 'a whole cart after 0 carts: the first of its bytes', sheet(zones(1), '00', cart()))
     refused(13, 20, 'a second cart where one is said', sheet(zones(1), '01', cart(), cart()))
-    route = [step(z) for z in range(8)]
-    refused(13, 837, 'a byte after the longest sheet', sheet(zones(24), '10', *[cart(0, 0, route)] * 16, '00'))
+    refused(13, 837, 'a byte after the longest sheet', longest('00'))
 
 
 def arrival_orders():

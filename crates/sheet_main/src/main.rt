@@ -1,5 +1,5 @@
 // Reads a crossing sheet from standard input and prints what the reader says of it.
-// A sheet of more than 65,536 bytes is answered by its first 65,536: no length field fits it either way.
+// A sheet of more than 65,536 bytes is cut there: no length field fits it, whole or cut.
 use libc::STDIN_FILENO;
 
 fn main() {

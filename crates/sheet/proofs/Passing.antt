@@ -1,9 +1,9 @@
 -- What it says that every check of a sheet passes, field by field, and back: each list of checks is read part by part, both ways at once.
 use Prim.Native.Nat.{ℕ, suc, _+_, _≤_, _<_}
-use mathlib.Core.Path.{_≡_, refl, ap}
+use mathlib.Core.Path.{_≡_, refl}
 use mathlib.Core.Bool.{Bool, true, false}
 use mathlib.Core.List.{List}
-use mathlib.Core.Logic.{_↔_, Iff·trans, inl, inr}
+use mathlib.Core.Logic.{_↔_, Iff·trans}
 use native.Mathlib.Omega.{arith}
 use native.Mathlib.Decide.{decLt}
 use lib.ListN.{length}
@@ -13,7 +13,7 @@ use Rattle.words.specs.Lists.{pick}
 use Rattle.words.specs.Checks.{AllPass, Numbered}
 use Rattle.words.proofs.Says.{Says, says-as, check-says, _then_, each-says}
 use Rattle.words.proofs.Tests.{leb-says, ltb-says, eqb-says, and-says, none-says}
-use Rattle.words.proofs.First.{pass-answers, fails-refuses, pass-or-fail, numbered-fails}
+use Rattle.words.proofs.First.{pass-answers, done-passes}
 use Rattle.fields.proofs.BytesLaws.{Holds, field-says}
 use Rattle.sheet.specs.Layout.{versionAt, lengthAt, zoneCountAt, zoneCount, followAt, crossAt, cartCountAt, cartCount, laneAt, laneOf, arrivalAt, arrivalOf, stepCountAt, stepCount, zoneAt, zoneOf, passingAt, travelAt, endAt}
 use Rattle.sheet.specs.Checks.{field, mostTravel, zoneChecks, stepChecks, cartChecks, laneChecks, sheetChecks}
@@ -143,10 +143,4 @@ module _ (s : List ℕ) where
 
   pub accepted-passes : readSheet s .outcome .number ≡ 0 → AllPass (sheetChecks s)
   unfolding readSheet
-  accepted-passes e =
-      elim (pass-or-fail (sheetChecks s)) [
-        | inl h ↦ h
-        | inr (c, f) ↦
-            let refused = fails-refuses sheetRefused (sheetDone (sheetOf s)) (sheetChecks s) c f in
-            absurd (omega (arith, ap (λ (r : SheetRead). r .outcome .number) refused, numbered-fails (sheetChecks s) c sheet-numbered f))
-      ]
+  accepted-passes = done-passes (λ (r : SheetRead). r .outcome) sheetRefused (sheetDone (sheetOf s)) (λ o. refl) (sheetChecks s) sheet-numbered

@@ -1,2 +1,4 @@
 pub mod Passing
 pub mod Refused
+pub mod Visitors
+pub mod Ahead

@@ -2,3 +2,5 @@ pub mod Passing
 pub mod Refused
 pub mod Visitors
 pub mod Ahead
+pub mod Shows
+pub mod Readable

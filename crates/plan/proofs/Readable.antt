@@ -1,0 +1,157 @@
+-- What a readable plan is: the bytes show its orders, so that what the checks say of the bytes holds of them.
+use Prim.Native.Nat.{ℕ, zero, suc, _+_, _*_, _≤_, _<_}
+use mathlib.Core.Path.{_≡_, refl, sym, ap, _∙_}
+use mathlib.Core.Bool.{true}
+use mathlib.Core.List.{List}
+use native.Mathlib.Omega.{arith}
+use native.Mathlib.Decide.{decLt}
+use lib.ListN.{length, getD}
+use Rattle.words.proofs.Entries.{length-entries}
+use Rattle.words.proofs.Tables.{used-at, unused-at}
+use Rattle.fields.proofs.BytesLaws.{holds-as}
+use Rattle.sets.specs.Counting.{setBelow}
+use Rattle.sets.proofs.Counting.{count-most}
+use Rattle.sheet.specs.Reading.{sheetOf, readSheet}
+use Rattle.sheet.specs.Valid.{steps, zone, Valid}
+use Rattle.sheet.specs.declared.Sheet.{Sheet}
+use Rattle.sheet.specs.declared.SheetRead.{SheetRead}
+use Rattle.sheet.proofs.Tables.{table-used, table-unused}
+use Rattle.sheet.proofs.Accepted.{accepted-valid}
+use Rattle.plan.specs.Layout.{countAt, countOf, cartOf, listOf}
+use Rattle.plan.specs.Lists.{visits, visitors, isAhead}
+use Rattle.plan.specs.Reading.{planDone, aheadOf, ordersOf, readPlan}
+use Rattle.plan.specs.Written.{count, listed}
+use Rattle.plan.specs.Valid.{passingList, ahead, Shaped, ValidEntry, ValidList, UnusedZero, ValidOrders, sumBelow, planLength}
+use Rattle.plan.specs.declared.Orders.{Orders}
+use Rattle.plan.specs.declared.PlanRead.{PlanRead}
+use Rattle.plan.proofs.Passing.{PlanPasses, reading-says, read-passes, passes-read, read-sheet}
+use Rattle.plan.proofs.Visitors.{step-cart, step-valid, sum-visitors, sum-most}
+use Rattle.plan.proofs.Shows.{Shows, is-listed, is-step, ahead-shown}
+
+module _ (sheet : Sheet) (v : Valid sheet) (p : List ℕ) (h : PlanPasses sheet p) where
+  abbrev said : Orders
+  said = ordersOf sheet p
+
+  -- ---- the bytes show the orders that they say
+
+  count-used : (z : ℕ) → z < sheet .zones → count said z ≡ countOf p z
+  unfolding ordersOf
+  count-used z l = table-used 24 (sheet .zones) (countOf p) (v .zones-most) z l
+
+  listed-used : (z k : ℕ) → z < sheet .zones → k < countOf p z → listed said z k ≡ cartOf p z k
+  unfolding ordersOf
+  listed-used z k l m =
+      let few : countOf p z ≤ 16 = omega (arith, h .list z l .count .keeps, count-most 16 (λ i. visits sheet i z)) in
+      used-at 384 16 (is-listed sheet p) (cartOf p) z k (omega arith) (omega (arith, v .zones-most)) (l, m)
+
+  passes-shows : Shows p (sheet .zones) said
+  passes-shows =
+      record {
+        version-is = h .version;
+        total-is = h .total;
+        zones-is = h .zones;
+        list = λ z l.
+            record {
+              count-is = holds-as (h .list z l .count) (sym (count-used z l));
+              cart-is = λ k m.
+                  let below : k < countOf p z = omega (arith, count-used z l) in
+                  holds-as (h .list z l .cart k below) (sym (listed-used z k l below));
+            };
+        ends = h .ends;
+      }
+
+  -- ---- and these are valid
+
+  shaped : Shaped said
+  unfolding ordersOf
+  shaped = record { count-24 = length-entries 24 0 _; list-384 = length-entries 384 0 _; ahead-128 = length-entries 128 0 _ }
+
+  unused : UnusedZero sheet said
+  unfolding ordersOf
+  unused =
+      record {
+        no-count = table-unused 24 (sheet .zones) (countOf p);
+        no-listed = λ z k l m. unused-at 384 16 (is-listed sheet p) (cartOf p) z k l (λ u. omega (arith, count-used z (u .0)));
+        no-ahead = λ i j l m. unused-at 128 8 (is-step sheet) (aheadOf sheet p) i j l (λ u. omega arith);
+      }
+
+  entry-valid : (z k : ℕ) → z < sheet .zones → k < countOf p z → ValidEntry sheet said z k
+  entry-valid z k l m =
+      let here = h .list z l .cart k m .keeps in
+      let once : (e : ℕ) → e < k → listed said z e ≡ listed said z k → ⊥
+      = λ e below same. here .once e below (cc (listed-used z e l (omega arith), listed-used z k l m)) in
+      record {
+        visiting = rw (listed-used z k l m) (here .visiting);
+        once = once;
+        in-lane = λ e below same.
+            let first = listed-used z e l (omega arith) in
+            let later = listed-used z k l m in
+            omega (arith, once e below, h .in-lane z l k m e below (cc));
+      }
+
+  list-valid : (z : ℕ) → z < sheet .zones → ValidList sheet said z
+  list-valid z l =
+      record {
+        all-visitors = count-used z l ∙ h .list z l .count .keeps;
+        entry = λ k m. entry-valid z k l (omega (arith, count-used z l));
+      }
+
+  ahead-said : (i j : ℕ) → j < steps sheet i → ahead said i j ≡ setBelow 16 (λ d. isAhead (passingList said (zone sheet i j)) i d)
+  unfolding ordersOf
+  ahead-said i j l =
+      let i-below = step-cart sheet v i j l in
+      let few = v .cart i i-below .steps-most in
+      used-at 128 8 (is-step sheet) (aheadOf sheet p) i j (omega arith) (omega (arith, v .carts-most)) l
+      ∙ ahead-shown sheet v p said passes-shows i j l
+
+  pub passes-valid : ValidOrders sheet said
+  passes-valid = record { shaped = shaped; list = list-valid; ahead-is = ahead-said; unused = unused }
+
+-- ---- where the lists end
+
+-- n lists are as long as all visits to their zones
+lists-end : (sheet : Sheet) (p : List ℕ) → PlanPasses sheet p → (n : ℕ) → n ≤ sheet .zones → countAt p n ≡ 4 + n + sumBelow n (visitors sheet)
+unfolding countAt sumBelow
+lists-end sheet p h zero l = refl
+lists-end sheet p h (suc n) l = omega (arith, lists-end sheet p h n (omega arith), h .list n l .count .keeps)
+
+-- at most 8 steps a cart
+steps-most : (sheet : Sheet) → Valid sheet → (i : ℕ) → steps sheet i ≤ 8
+steps-most sheet v i =
+    elim (decLt i (sheet .carts)) [ yes l ↦ v .cart i l .steps-most | no m ↦ omega (arith, v .unused .no-steps i (omega arith)) ]
+
+pub length-most : (sheet : Sheet) → Valid sheet → planLength sheet ≤ 156
+length-most sheet v = omega (arith, v .zones-most, sum-most 16 8 (steps sheet) (λ i _. steps-most sheet v i))
+
+-- ---- the readable plan
+
+module _ (s p : List ℕ) (e : readPlan s p .outcome .number ≡ 0) where
+  whole : readPlan s p ≡ planDone (sheetOf s) (ordersOf (sheetOf s) p)
+  whole = passes-read s p (read-passes s p e)
+
+  said-valid : Valid (sheetOf s)
+  said-valid =
+      let accepted = read-sheet s p e in
+      rw (ap (λ (r : SheetRead). r .sheet) accepted) at (accepted-valid s (ap (λ (r : SheetRead). r .outcome .number) accepted))
+
+  said-passes : PlanPasses (sheetOf s) p
+  said-passes = reading-says s p .passing (read-passes s p e) .1
+
+  pub readable-sheet : Valid (readPlan s p .sheet)
+  readable-sheet = rw whole said-valid
+
+  pub readable-valid : ValidOrders (readPlan s p .sheet) (readPlan s p .orders)
+  readable-valid = rw whole (passes-valid (sheetOf s) said-valid p said-passes)
+
+  pub readable-shows : Shows p (readPlan s p .sheet .zones) (readPlan s p .orders)
+  readable-shows = rw whole (passes-shows (sheetOf s) said-valid p said-passes)
+
+  -- "The length is 4 + n + all steps, at most 156."
+  pub readable-length : (length p ≡ planLength (readPlan s p .sheet)) × (length p ≤ 156)
+  readable-length = rw whole (is-length, omega (arith, is-length, length-most (sheetOf s) said-valid))
+    where
+      is-length : length p ≡ planLength (sheetOf s)
+      is-length =
+          sym (said-passes .ends)
+          ∙ lists-end (sheetOf s) p said-passes (sheetOf s .zones) (omega arith)
+          ∙ ap (λ (k : ℕ). 4 + sheetOf s .zones + k) (sum-visitors (sheetOf s) said-valid)

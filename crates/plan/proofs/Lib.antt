@@ -4,3 +4,4 @@ pub mod Visitors
 pub mod Ahead
 pub mod Shows
 pub mod Readable
+pub mod Lists

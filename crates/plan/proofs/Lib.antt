@@ -5,3 +5,4 @@ pub mod Ahead
 pub mod Shows
 pub mod Readable
 pub mod Lists
+pub mod RoundTrip

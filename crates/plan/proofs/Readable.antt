@@ -11,7 +11,7 @@ use Rattle.words.proofs.Tables.{used-at, unused-at}
 use Rattle.fields.proofs.BytesLaws.{holds-as}
 use Rattle.sets.specs.Counting.{setBelow}
 use Rattle.sets.proofs.Counting.{count-most}
-use Rattle.sheet.specs.Reading.{sheetOf, readSheet}
+use Rattle.sheet.specs.Reading.{sheetDone, sheetOf, readSheet}
 use Rattle.sheet.specs.Valid.{steps, zone, Valid}
 use Rattle.sheet.specs.declared.Sheet.{Sheet}
 use Rattle.sheet.specs.declared.SheetRead.{SheetRead}
@@ -125,14 +125,19 @@ length-most sheet v = omega (arith, v .zones-most, sum-most 16 8 (steps sheet) (
 
 -- ---- the readable plan
 
+pub sheet-valid : (s : List ℕ) (sheet : Sheet) → readSheet s ≡ sheetDone sheet → Valid sheet
+sheet-valid s sheet e =
+    rw (ap (λ (r : SheetRead). r .sheet) e) at (accepted-valid s (ap (λ (r : SheetRead). r .outcome .number) e))
+
 module _ (s p : List ℕ) (e : readPlan s p .outcome .number ≡ 0) where
   whole : readPlan s p ≡ planDone (sheetOf s) (ordersOf (sheetOf s) p)
   whole = passes-read s p (read-passes s p e)
 
+  pub readable-accepted : readSheet s ≡ sheetDone (readPlan s p .sheet)
+  readable-accepted = rw whole (read-sheet s p e)
+
   said-valid : Valid (sheetOf s)
-  said-valid =
-      let accepted = read-sheet s p e in
-      rw (ap (λ (r : SheetRead). r .sheet) accepted) at (accepted-valid s (ap (λ (r : SheetRead). r .outcome .number) accepted))
+  said-valid = sheet-valid s (sheetOf s) (read-sheet s p e)
 
   said-passes : PlanPasses (sheetOf s) p
   said-passes = reading-says s p .passing (read-passes s p e) .1

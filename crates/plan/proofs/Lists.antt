@@ -1,8 +1,9 @@
 -- The lists of valid orders: each names exactly the carts that visit its zone, and the sets of carts ahead say who stands earlier.
-use Prim.Native.Nat.{ℕ, _+_, _*_, _≤_, _<_}
-use mathlib.Core.Path.{_≡_, refl, sym, ap, _∙_}
+use Prim.Native.Nat.{ℕ, _<_}
+use mathlib.Core.Path.{_≡_, sym, _∙_}
 use mathlib.Core.Bool.{Bool, true, false, not-eq-not}
 use mathlib.Core.List.{List}
+use mathlib.Core.Logic.{_↔_}
 use native.Mathlib.Omega.{arith}
 use native.Mathlib.Decide.{decLt}
 use lib.ListN.{length, getD}
@@ -24,30 +25,37 @@ use Rattle.plan.specs.declared.Orders.{Orders}
 use Rattle.plan.proofs.Visitors.{count-values, step-valid, visitor-cart}
 use Rattle.plan.proofs.Ahead.{ahead-some, Distinct, ahead-earlier}
 
--- whether zone z's list names cart i
+-- cart i stands in zone z's list, and the test for it
+abbrev pub Listed : Orders → ℕ → ℕ → Type 0
+Listed orders z i = (k : ℕ) × (k < count orders z) × (listed orders z k ≡ i)
+
 abbrev isNamed : Orders → ℕ → ℕ → Bool
 isNamed orders z i = anyBelow (λ k. eqb (listed orders z k) i) (count orders z)
+
+named-listed : (orders : Orders) (z i : ℕ) → isNamed orders z i ≡ true → Listed orders z i
+named-listed orders z i e = let (k, m, same) = any-some _ (count orders z) e in (k, m, eqb-true (listed orders z k) i same)
 
 module _ (sheet : Sheet) (v : Valid sheet) (orders : Orders) (w : ValidOrders sheet orders) (z : ℕ) (l : z < sheet .zones) where
   pub listed-cart : (k : ℕ) → k < count orders z → listed orders z k < sheet .carts
   listed-cart k m = visitor-cart sheet v (listed orders z k) z (w .list z l .entry k m .visiting)
 
-  named-visits : (i : ℕ) → isNamed orders z i ≡ true → visits sheet i z ≡ true
-  named-visits i e =
-      let (k, m, same) = any-some _ (count orders z) e in
-      rw (eqb-true (listed orders z k) i same) at (w .list z l .entry k m .visiting)
+  listed-visits : (i : ℕ) → Listed orders z i → visits sheet i z ≡ true
+  listed-visits i (k, m, same) = rw same at (w .list z l .entry k m .visiting)
 
   count-named : countBelow 16 (isNamed orders z) ≡ count orders z
   count-named =
       count-values 16 (count orders z) (listed orders z) (λ k m. omega (arith, v .carts-most, listed-cart k m)) (λ e k m. w .list z l .entry k m .once e)
 
   -- as many are listed as visit, and each of them visits
-  pub visitor-listed : (i : ℕ) → visits sheet i z ≡ true → (k : ℕ) × (k < count orders z) × (listed orders z k ≡ i)
+  pub visitor-listed : (i : ℕ) → visits sheet i z ≡ true → Listed orders z i
   visitor-listed i e =
       let below : i < 16 = omega (arith, v .carts-most, visitor-cart sheet v i z e) in
-      let named = count-full 16 (isNamed orders z) (λ d. visits sheet d z) (λ d _. named-visits d) (count-named ∙ w .list z l .all-visitors) i below e in
-      let (k, m, same) = any-some _ (count orders z) named in
-      (k, m, eqb-true (listed orders z k) i same)
+      let within : (d : ℕ) → d < 16 → isNamed orders z d ≡ true → visits sheet d z ≡ true = λ d _ n. listed-visits d (named-listed orders z d n) in
+      named-listed orders z i (count-full 16 (isNamed orders z) (λ d. visits sheet d z) within (count-named ∙ w .list z l .all-visitors) i below e)
+
+  -- "Each zone lists exactly the carts whose routes name it"
+  pub list-visitors : (i : ℕ) → (visits sheet i z ≡ true) ↔ Listed orders z i
+  list-visitors i = (visitor-listed i, listed-visits i)
 
   abbrev list : List ℕ
   list = passingList orders z

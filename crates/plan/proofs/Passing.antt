@@ -1,5 +1,5 @@
 -- What it says that every check of a plan passes, field by field, and back; and that a plan is read exactly where all pass.
-use Prim.Native.Nat.{ℕ, _+_, _≤_, _<_}
+use Prim.Native.Nat.{ℕ, _≤_, _<_}
 use mathlib.Core.Path.{_≡_, refl}
 use mathlib.Core.Bool.{Bool, true}
 use mathlib.Core.List.{List}

@@ -1,31 +1,26 @@
 -- What a readable plan is: the bytes show its orders, so that what the checks say of the bytes holds of them.
-use Prim.Native.Nat.{ℕ, zero, suc, _+_, _*_, _≤_, _<_}
-use mathlib.Core.Path.{_≡_, refl, sym, ap, _∙_}
-use mathlib.Core.Bool.{true}
+use Prim.Native.Nat.{ℕ, zero, suc, _+_, _≤_, _<_}
+use mathlib.Core.Path.{_≡_, refl, sym, _∙_}
 use mathlib.Core.List.{List}
 use native.Mathlib.Omega.{arith}
-use native.Mathlib.Decide.{decLt}
-use lib.ListN.{length, getD}
+use lib.ListN.{length}
 use Rattle.words.proofs.Entries.{length-entries}
 use Rattle.words.proofs.Tables.{used-at, unused-at}
 use Rattle.fields.proofs.BytesLaws.{holds-as}
 use Rattle.sets.specs.Counting.{setBelow}
-use Rattle.sets.proofs.Counting.{count-most}
 use Rattle.sheet.specs.Reading.{sheetDone, sheetOf, readSheet}
 use Rattle.sheet.specs.Valid.{steps, zone, Valid}
 use Rattle.sheet.specs.declared.Sheet.{Sheet}
-use Rattle.sheet.specs.declared.SheetRead.{SheetRead}
 use Rattle.sheet.proofs.Tables.{table-used, table-unused}
-use Rattle.sheet.proofs.Accepted.{accepted-valid}
-use Rattle.plan.specs.Layout.{countAt, countOf, cartOf, listOf}
-use Rattle.plan.specs.Lists.{visits, visitors, isAhead}
+use Rattle.sheet.proofs.Accepted.{done-valid}
+use Rattle.plan.specs.Layout.{countAt, countOf, cartOf}
+use Rattle.plan.specs.Lists.{visitors, isAhead}
 use Rattle.plan.specs.Reading.{planDone, aheadOf, ordersOf, readPlan}
 use Rattle.plan.specs.Written.{count, listed}
 use Rattle.plan.specs.Valid.{passingList, ahead, Shaped, ValidEntry, ValidList, UnusedZero, ValidOrders, sumBelow, planLength}
 use Rattle.plan.specs.declared.Orders.{Orders}
-use Rattle.plan.specs.declared.PlanRead.{PlanRead}
 use Rattle.plan.proofs.Passing.{PlanPasses, reading-says, read-passes, passes-read, read-sheet}
-use Rattle.plan.proofs.Visitors.{step-cart, step-valid, sum-visitors, sum-most}
+use Rattle.plan.proofs.Visitors.{visitors-most, step-cart, sum-visitors, length-most}
 use Rattle.plan.proofs.Shows.{Shows, is-listed, is-step, ahead-shown}
 
 module _ (sheet : Sheet) (v : Valid sheet) (p : List ℕ) (h : PlanPasses sheet p) where
@@ -41,7 +36,7 @@ module _ (sheet : Sheet) (v : Valid sheet) (p : List ℕ) (h : PlanPasses sheet 
   listed-used : (z k : ℕ) → z < sheet .zones → k < countOf p z → listed said z k ≡ cartOf p z k
   unfolding ordersOf
   listed-used z k l m =
-      let few : countOf p z ≤ 16 = omega (arith, h .list z l .count .keeps, count-most 16 (λ i. visits sheet i z)) in
+      let few : countOf p z ≤ 16 = omega (arith, h .list z l .count .keeps, visitors-most sheet z) in
       used-at 384 16 (is-listed sheet p) (cartOf p) z k (omega arith) (omega (arith, v .zones-most)) (l, m)
 
   passes-shows : Shows p (sheet .zones) said
@@ -104,30 +99,18 @@ module _ (sheet : Sheet) (v : Valid sheet) (p : List ℕ) (h : PlanPasses sheet 
       used-at 128 8 (is-step sheet) (aheadOf sheet p) i j (omega arith) (omega (arith, v .carts-most)) l
       ∙ ahead-shown sheet v p said passes-shows i j l
 
-  pub passes-valid : ValidOrders sheet said
+  passes-valid : ValidOrders sheet said
   passes-valid = record { shaped = shaped; list = list-valid; ahead-is = ahead-said; unused = unused }
 
--- ---- where the lists end
+  -- ---- where the lists end
 
--- n lists are as long as all visits to their zones
-lists-end : (sheet : Sheet) (p : List ℕ) → PlanPasses sheet p → (n : ℕ) → n ≤ sheet .zones → countAt p n ≡ 4 + n + sumBelow n (visitors sheet)
-unfolding countAt sumBelow
-lists-end sheet p h zero l = refl
-lists-end sheet p h (suc n) l = omega (arith, lists-end sheet p h n (omega arith), h .list n l .count .keeps)
+  count-at : (n : ℕ) → n ≤ sheet .zones → countAt p n ≡ 4 + n + sumBelow n (visitors sheet)
+  unfolding countAt sumBelow
+  count-at zero l = refl
+  count-at (suc n) l = omega (arith, count-at n (omega arith), h .list n l .count .keeps)
 
--- at most 8 steps a cart
-steps-most : (sheet : Sheet) → Valid sheet → (i : ℕ) → steps sheet i ≤ 8
-steps-most sheet v i =
-    elim (decLt i (sheet .carts)) [ yes l ↦ v .cart i l .steps-most | no m ↦ omega (arith, v .unused .no-steps i (omega arith)) ]
-
-pub length-most : (sheet : Sheet) → Valid sheet → planLength sheet ≤ 156
-length-most sheet v = omega (arith, v .zones-most, sum-most 16 8 (steps sheet) (λ i _. steps-most sheet v i))
-
--- ---- the readable plan
-
-pub sheet-valid : (s : List ℕ) (sheet : Sheet) → readSheet s ≡ sheetDone sheet → Valid sheet
-sheet-valid s sheet e =
-    rw (ap (λ (r : SheetRead). r .sheet) e) at (accepted-valid s (ap (λ (r : SheetRead). r .outcome .number) e))
+  pub passes-length : length p ≡ planLength sheet
+  passes-length = omega (arith, h .ends, count-at (sheet .zones) (omega arith), sum-visitors sheet v)
 
 module _ (s p : List ℕ) (e : readPlan s p .outcome .number ≡ 0) where
   whole : readPlan s p ≡ planDone (sheetOf s) (ordersOf (sheetOf s) p)
@@ -137,7 +120,7 @@ module _ (s p : List ℕ) (e : readPlan s p .outcome .number ≡ 0) where
   readable-accepted = rw whole (read-sheet s p e)
 
   said-valid : Valid (sheetOf s)
-  said-valid = sheet-valid s (sheetOf s) (read-sheet s p e)
+  said-valid = done-valid s (sheetOf s) (read-sheet s p e)
 
   said-passes : PlanPasses (sheetOf s) p
   said-passes = reading-says s p .passing (read-passes s p e) .1
@@ -153,10 +136,6 @@ module _ (s p : List ℕ) (e : readPlan s p .outcome .number ≡ 0) where
 
   -- "The length is 4 + n + all steps, at most 156."
   pub readable-length : (length p ≡ planLength (readPlan s p .sheet)) × (length p ≤ 156)
-  readable-length = rw whole (is-length, omega (arith, is-length, length-most (sheetOf s) said-valid))
-    where
-      is-length : length p ≡ planLength (sheetOf s)
-      is-length =
-          sym (said-passes .ends)
-          ∙ lists-end (sheetOf s) p said-passes (sheetOf s .zones) (omega arith)
-          ∙ ap (λ (k : ℕ). 4 + sheetOf s .zones + k) (sum-visitors (sheetOf s) said-valid)
+  readable-length =
+      let is-length = passes-length (sheetOf s) said-valid p said-passes in
+      rw whole (is-length, omega (arith, length-most (sheetOf s) said-valid))

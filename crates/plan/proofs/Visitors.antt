@@ -1,20 +1,20 @@
 -- Who visits a zone: carts of the sheet only, and at all zones together as many as there are steps.
 use Prim.Native.Nat.{ℕ, zero, suc, _+_, _*_, _≤_, _<_}
-use mathlib.Core.Path.{_≡_, refl, sym, ap, _∙_, subst}
-use mathlib.Core.Bool.{Bool, true, false, _||_}
+use mathlib.Core.Path.{_≡_, refl, sym, ap, _∙_}
+use mathlib.Core.Bool.{Bool, true}
 use native.Mathlib.Omega.{arith}
-use native.Mathlib.Nat.{mul-zero, mul-suc}
+use native.Mathlib.Nat.{mul-suc}
 use native.Mathlib.Decide.{decLt}
 use lib.Dec.{eqb}
-use borrow.Author.Tests.{eqb-true, eq-eqb, ne-eqb}
+use borrow.Author.Tests.{eq-eqb, ne-eqb}
 use Rattle.words.specs.Lists.{anyBelow}
 use Rattle.words.proofs.Any.{any-some, none-any}
 use Rattle.sets.specs.Counting.{bit, countBelow}
-use Rattle.sets.proofs.Counting.{count-none, count-more}
+use Rattle.sets.proofs.Counting.{count-most, count-none, count-more}
 use Rattle.sheet.specs.Valid.{steps, zone, ValidStep, Valid}
 use Rattle.sheet.specs.declared.Sheet.{Sheet}
 use Rattle.plan.specs.Lists.{visits, visitors}
-use Rattle.plan.specs.Valid.{sumBelow}
+use Rattle.plan.specs.Valid.{sumBelow, planLength}
 
 -- k numbers by a rule, all below n and no two the same, are k of those below n
 pub count-values : (n k : ℕ) (rule : ℕ → ℕ) → ((e : ℕ) → e < k → rule e < n) → ((e f : ℕ) → f < k → e < f → rule e ≡ rule f → ⊥)
@@ -30,12 +30,12 @@ count-values n (suc k) rule below once =
 
 -- ---- sums
 
-pub sum-same : (n : ℕ) (rule other : ℕ → ℕ) → ((i : ℕ) → i < n → rule i ≡ other i) → sumBelow n rule ≡ sumBelow n other
+sum-same : (n : ℕ) (rule other : ℕ → ℕ) → ((i : ℕ) → i < n → rule i ≡ other i) → sumBelow n rule ≡ sumBelow n other
 unfolding sumBelow
 sum-same zero rule other h = refl
 sum-same (suc n) rule other h = rw (h n (omega arith), sum-same n rule other (λ i l. h i (omega arith)))
 
-pub sum-most : (n most : ℕ) (rule : ℕ → ℕ) → ((i : ℕ) → i < n → rule i ≤ most) → sumBelow n rule ≤ most * n
+sum-most : (n most : ℕ) (rule : ℕ → ℕ) → ((i : ℕ) → i < n → rule i ≤ most) → sumBelow n rule ≤ most * n
 unfolding sumBelow
 sum-most zero most rule h = omega arith
 sum-most (suc n) most rule h = omega (arith, mul-suc most n, h n (omega arith), sum-most n most rule (λ i l. h i (omega arith)))
@@ -59,6 +59,9 @@ sum-turned m (suc n) test =
 
 -- ---- the visitors
 
+pub visitors-most : (sheet : Sheet) (z : ℕ) → visitors sheet z ≤ 16
+visitors-most sheet z = count-most 16 (λ i. visits sheet i z)
+
 module _ (sheet : Sheet) (v : Valid sheet) where
   -- who has a step is a cart
   pub step-cart : (i j : ℕ) → j < steps sheet i → i < sheet .carts
@@ -67,6 +70,10 @@ module _ (sheet : Sheet) (v : Valid sheet) where
 
   pub step-valid : (i j : ℕ) → j < steps sheet i → ValidStep sheet i j
   step-valid i j l = v .cart i (step-cart i j l) .step j l
+
+  steps-most : (i : ℕ) → steps sheet i ≤ 8
+  steps-most i =
+      elim (decLt i (sheet .carts)) [ yes l ↦ v .cart i l .steps-most | no m ↦ omega (arith, v .unused .no-steps i (omega arith)) ]
 
   pub visitor-cart : (i z : ℕ) → visits sheet i z ≡ true → i < sheet .carts
   visitor-cart i z e = let (j, l, _) = any-some _ (steps sheet i) e in step-cart i j l
@@ -77,3 +84,6 @@ module _ (sheet : Sheet) (v : Valid sheet) where
 
   pub sum-visitors : sumBelow (sheet .zones) (visitors sheet) ≡ sumBelow 16 (steps sheet)
   sum-visitors = sum-turned 16 (sheet .zones) (visits sheet) ∙ sum-same 16 _ (steps sheet) (λ i _. zones-visited i)
+
+  pub length-most : planLength sheet ≤ 156
+  length-most = omega (arith, v .zones-most, sum-most 16 8 (steps sheet) (λ i _. steps-most i))

@@ -1,7 +1,7 @@
 -- Counting by a test: one test held to another, and one number more; and the set of the numbers that pass, told by its members.
 use Prim.Native.Nat.{ℕ, zero, suc, _+_, _-_, _*_, _/_, _%_, _^_, _≤_, _<_}
 use mathlib.Core.Path.{_≡_, refl, sym, ap, _∙_}
-use mathlib.Core.Bool.{Bool, true, false, false≢true}
+use mathlib.Core.Bool.{Bool, true, false}
 use native.Mathlib.Omega.{arith}
 use native.Mathlib.Nat.{div-eq-of-lt, mul-add-div-right, mul-le-mul-right, pow-succ', two-pow-succ}
 use native.Mathlib.Decide.{ℕ-discrete}

@@ -20,7 +20,7 @@ use Rattle.plan.specs.Written.{count, listed}
 use Rattle.plan.specs.Valid.{passingList, ahead, Shaped, ValidEntry, ValidList, UnusedZero, ValidOrders, sumBelow, planLength}
 use Rattle.plan.specs.declared.Orders.{Orders}
 use Rattle.plan.proofs.Passing.{PlanPasses, reading-says, read-passes, passes-read, read-sheet}
-use Rattle.plan.proofs.Visitors.{visitors-most, step-cart, sum-visitors, length-most}
+use Rattle.plan.proofs.Visitors.{visitors-most, step-cart, steps-most, sum-visitors, planLength-most}
 use Rattle.plan.proofs.Shows.{Shows, is-listed, is-step, ahead-shown}
 
 module _ (sheet : Sheet) (v : Valid sheet) (p : List ℕ) (h : PlanPasses sheet p) where
@@ -94,9 +94,8 @@ module _ (sheet : Sheet) (v : Valid sheet) (p : List ℕ) (h : PlanPasses sheet 
   ahead-said : (i j : ℕ) → j < steps sheet i → ahead said i j ≡ setBelow 16 (λ d. isAhead (passingList said (zone sheet i j)) i d)
   unfolding ordersOf
   ahead-said i j l =
-      let i-below = step-cart sheet v i j l in
-      let few = v .cart i i-below .steps-most in
-      used-at 128 8 (is-step sheet) (aheadOf sheet p) i j (omega arith) (omega (arith, v .carts-most)) l
+      let j-below : j < 8 = omega (arith, steps-most sheet v i) in
+      used-at 128 8 (is-step sheet) (aheadOf sheet p) i j j-below (omega (arith, v .carts-most, step-cart sheet v i j l)) l
       ∙ ahead-shown sheet v p said passes-shows i j l
 
   passes-valid : ValidOrders sheet said
@@ -138,4 +137,4 @@ module _ (s p : List ℕ) (e : readPlan s p .outcome .number ≡ 0) where
   pub readable-length : (length p ≡ planLength (readPlan s p .sheet)) × (length p ≤ 156)
   readable-length =
       let is-length = passes-length (sheetOf s) said-valid p said-passes in
-      rw whole (is-length, omega (arith, length-most (sheetOf s) said-valid))
+      rw whole (is-length, omega (arith, planLength-most (sheetOf s) said-valid))

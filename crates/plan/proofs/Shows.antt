@@ -50,15 +50,15 @@ is-step sheet i j = ltb-says j (steps sheet i)
 
 module _ (sheet : Sheet) (v : Valid sheet) (p : List ℕ) (orders : Orders) (h : Shows p (sheet .zones) orders) where
   -- a list as the bytes have it, and as the orders do
-  list-shown : (z : ℕ) → z < sheet .zones → listOf p z ≡ passingList orders z
-  list-shown z l =
+  list-same : (z : ℕ) → z < sheet .zones → listOf p z ≡ passingList orders z
+  list-same z l =
       let q = h .list z l in
       ap (λ (n : ℕ). entries n 0 (cartOf p z)) (q .count-is .keeps)
       ∙ same-entries (count orders z) (cartOf p z) (listed orders z) (λ k m. q .cart-is k m .keeps)
 
   pub ahead-shown : (i j : ℕ) → j < steps sheet i → aheadOf sheet p i j ≡ setBelow 16 (λ d. isAhead (passingList orders (zone sheet i j)) i d)
   ahead-shown i j l =
-      ap (λ (list : List ℕ). setBelow 16 (λ d. isAhead list i d)) (list-shown (zone sheet i j) (step-valid sheet v i j l .zone-below))
+      ap (λ (list : List ℕ). setBelow 16 (λ d. isAhead list i d)) (list-same (zone sheet i j) (step-valid sheet v i j l .zone-below))
 
 module _ (sheet : Sheet) (v : Valid sheet) (p : List ℕ) (orders : Orders) (h : Shows p (sheet .zones) orders) (w : ValidOrders sheet orders) where
   cart-passes : (z k : ℕ) → ShowsList p orders z → ValidList sheet orders z → k < count orders z → CartPasses sheet p z k (cartOf p z k)

@@ -1,6 +1,6 @@
 -- A search below a bound: what it says while it goes on, and where it has found.
 use Prim.Native.Nat.{ℕ, zero, suc, _+_, _≤_, _<_}
-use mathlib.Core.Path.{_≡_, refl}
+use mathlib.Core.Path.{_≡_, refl, sym}
 use mathlib.Core.Bool.{Bool, true, false, _||_, true≢false}
 use mathlib.Core.Logic.{⊎-elim}
 use native.Mathlib.Omega.{arith}
@@ -29,6 +29,17 @@ any-found test (suc n) k h e =
 -- where nothing is found, the test fails at each number passed
 pub any-none : (test : ℕ → Bool) (n : ℕ) → anyBelow test n ≡ false → (k : ℕ) → k < n → test k ≡ true → ⊥
 any-none test n e k h t = true≢false (rw (any-found test n k h t) at e)
+
+-- where something is found, the test holds at a number passed
+pub any-some : (test : ℕ → Bool) (n : ℕ) → anyBelow test n ≡ true → (k : ℕ) × (k < n) × (test k ≡ true)
+unfolding anyBelow
+any-some test zero e = absurd (true≢false (sym e))
+any-some test (suc n) e = go (test n) refl (any-some test n) e
+  where
+    go : (b : Bool) → test n ≡ b → (anyBelow test n ≡ true → (k : ℕ) × (k < n) × (test k ≡ true)) → b || anyBelow test n ≡ true
+        → (k : ℕ) × (k < suc n) × (test k ≡ true)
+    go true t below found = (n, omega arith, t)
+    go false t below found = let (k, l, here) = below found in (k, omega arith, here)
 
 -- where the test fails at each number, nothing is found
 pub none-any : (test : ℕ → Bool) (n : ℕ) → ((k : ℕ) → k < n → test k ≡ false) → anyBelow test n ≡ false

@@ -32,6 +32,12 @@ unfolding each
 length-each zero i w rule h = sym (mul-zero w)
 length-each (suc n) i w rule h = rw (length-append, h i, length-each n (i + 1) w rule h, mul-suc) (omega arith)
 
+pub length-each-most : {A : Type 0} (n i w : ℕ) (rule : ℕ → List A) → ((k : ℕ) → k < i + n → length (rule k) ≤ w) → length (each n i rule) ≤ w * n
+unfolding each
+length-each-most zero i w rule h = omega arith
+length-each-most (suc n) i w rule h =
+    rw (length-append, mul-suc) (omega (arith, h i (omega arith), length-each-most n (i + 1) w rule (λ k l. h k (omega arith))))
+
 -- entry x, by number
 pub at-entry : (n : ℕ) (rule : ℕ → ℕ) (x : ℕ) → x < n → getD (entries n 0 rule) x 0 ≡ rule x
 at-entry n rule x h = getD-entries n 0 rule x 0 h ∙ ap rule (omega arith)

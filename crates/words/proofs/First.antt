@@ -4,6 +4,7 @@ use mathlib.Core.Path.{_≡_, refl, ap, _∙_}
 use mathlib.Core.Bool.{Bool, true, false}
 use mathlib.Core.List.{List, [], _∷_, _++_}
 use mathlib.Core.Logic.{_⊎_, inl, inr}
+use native.Mathlib.Omega.{arith}
 use Rattle.words.specs.Checks.{Check, refused, firstFailing, AllPass, Numbered, FirstFails}
 use Rattle.words.specs.declared.Outcome.{Outcome}
 
@@ -42,3 +43,26 @@ numbered-fails checks c n h = go (h .earlier) (rw (h .split) at n)
     go : (earlier : List Check) → Numbered (earlier ++ (c ∷ h .later)) → 0 < c .number
     go [] m = m .0
     go (d ∷ earlier) m = go earlier (m .1)
+
+-- answers that tell their outcome: a refusal its own
+module _ {R : Type 0} (outcome : R → Outcome) (refuse : Outcome → R) (answer : R) (own : (o : Outcome) → outcome (refuse o) ≡ o) (checks : List Check) where
+  abbrev told : Outcome
+  told = outcome (firstFailing refuse answer checks)
+
+  fails-told : (c : Check) → FirstFails checks c → told ≡ refused (c .number) (c .place)
+  fails-told c f = ap outcome (fails-refuses refuse answer checks c f) ∙ own (refused (c .number) (c .place))
+
+  pub done-passes : Numbered checks → told .number ≡ 0 → AllPass checks
+  done-passes n e =
+      elim (pass-or-fail checks) [
+        | inl h ↦ h
+        | inr (c, f) ↦ absurd (omega (arith, ap (λ (o : Outcome). o .number) (fails-told c f), numbered-fails checks c n f))
+      ]
+
+  pub refusal-fails : outcome answer .number ≡ 0 → 0 < told .number
+      → (c : Check) × FirstFails checks c × (told ≡ refused (c .number) (c .place))
+  refusal-fails e l =
+      elim (pass-or-fail checks) [
+        | inl h ↦ absurd (omega (arith, ap (λ (r : R). outcome r .number) (pass-answers refuse answer checks h)))
+        | inr (c, f) ↦ (c, f, fails-told c f)
+      ]

@@ -5,3 +5,4 @@ pub mod All
 pub mod First
 pub mod Tests
 pub mod Says
+pub mod Tables

@@ -1,0 +1,13 @@
+pub mod Places
+pub mod Ahead
+pub mod Moves
+pub mod Counts
+pub mod Apart
+pub mod Complete
+pub mod Plans
+pub mod Pointing
+pub mod Rings
+pub mod Pairs
+pub mod Ranks
+pub mod Strict
+pub mod Examples

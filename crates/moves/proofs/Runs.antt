@@ -2,10 +2,10 @@
 use Prim.Native.Nat.{ℕ, _+_, _<_}
 use mathlib.Core.Path.{_≡_, refl, ap, _∙_}
 use mathlib.Core.List.{List, [], _∷_, _++_}
-use native.Mathlib.Nat.{le-refl, le-trans}
+use native.Mathlib.Nat.{le-refl, le-trans, not-suc-le-zero}
 use native.Mathlib.Omega.{arith}
 use lib.ListN.{length, length-replicate}
-use Rattle.moves.specs.System.{System, carts, start, _≼_, InRange, sum}
+use Rattle.moves.specs.System.{System, carts, pos, start, _≼_, InRange, sum}
 use Rattle.moves.specs.Moves.{moved, Permitted}
 use Rattle.moves.specs.Runs.{after, Run, Reaches}
 use Rattle.moves.proofs.Positions.{moved-length, moved-up, moved-below, moved-sum, zeros-pos}
@@ -26,6 +26,10 @@ after-append s (c ∷ run) more = after-append (moved s c) run more
 module _ (S : System) where
   pub start-in-range : InRange S (start S)
   start-in-range = record { sized = length-replicate (carts S) 0; within = λ c. rw (zeros-pos (carts S) c) (omega arith) }
+
+  -- no move is made at the start
+  pub start-none : (c p : ℕ) → ¬ (p < pos (start S) c)
+  start-none c p h = not-suc-le-zero (rw (zeros-pos (carts S) c) at h)
 
   pub moved-in-range : (s : List ℕ) (c : ℕ) → InRange S s → Permitted S s c → InRange S (moved s c)
   moved-in-range s c r p = record { sized = moved-length s c ∙ r .sized; within = moved-below s (S .out) c (r .within) (p .not-out) }
@@ -60,6 +64,14 @@ module _ (S : System) where
 
   pub reaches-moved : (s t : List ℕ) (c : ℕ) → Reaches S s t → Permitted S t c → Reaches S s (moved t c)
   reaches-moved s t c x p = reaches-trans s t (moved t c) x (record { run = c ∷ []; is-run = (p, tt); ends = refl })
+
+  -- what each permitted move keeps, runs keep
+  pub reaches-keeps : (P : List ℕ → Type 0) → ((s : List ℕ) (c : ℕ) → Permitted S s c → P s → P (moved s c)) → (s t : List ℕ) → Reaches S s t → P s → P t
+  reaches-keeps P keeps s t x = rw (← x .ends) (go s (x .run) (x .is-run))
+    where
+      go : (s run : List ℕ) → Run S s run → P s → P (after s run)
+      go s [] l h = h
+      go s (c ∷ run) l h = go (moved s c) run (l .1) (keeps s c (l .0) h)
 
   pub reaches-up : (s t : List ℕ) → Reaches S s t → s ≼ t
   reaches-up s t x = rw (← x .ends) (after-up s (x .run))

@@ -1,5 +1,5 @@
 -- The sets that the lists are held to: who visits each zone, who may be ahead of each cart, who is seen in a list.
-use Prim.Native.Nat.{ℕ, _+_, _*_, _≤_, _<_}
+use Prim.Native.Nat.{ℕ, _+_, _*_, _^_, _≤_, _<_}
 use mathlib.Core.Bool.{Bool, not, _&&_, _||_}
 use mathlib.Core.List.{List}
 use lib.ListN.{getD}
@@ -16,6 +16,10 @@ pub record Routes (steps zone : List ℕ) : Type 0 where
 -- lanes 0 to 15
 abbrev pub Lanes : List ℕ → Type 0
 Lanes lane = (i : ℕ) → getD lane i 0 ≤ 15
+
+-- sets of carts 0 to 15
+abbrev pub Sets : List ℕ → Type 0
+Sets sets = (k : ℕ) → getD sets k 0 < 2 ^ 16
 
 -- whether zone z is among the first k of cart i's route
 abbrev pub names : List ℕ → ℕ → ℕ → ℕ → Bool

@@ -6,7 +6,7 @@ use words::Outcome;
 use words::refused;
 ghost use mathlib.Core.Path.{_≡_};
 ghost use Prim.Native.Nat.{_≤_};
-ghost use Rattle.lists.specs.Sets.{Routes, Lanes, whoVisits, mayLead, firstLate};
+ghost use Rattle.lists.specs.Sets.{Routes, Lanes, Sets, whoVisits, mayLead, firstLate};
 ghost use Rattle.lists.specs.Scan.{countTaken, cartTaken, noLists, listsFrom, Left};
 
 // For each zone the carts whose routes name it.
@@ -127,7 +127,7 @@ fn no_lists() -> Lists
 
 // The lists of n zones: nested loops over zones and entries, left by the label at the first byte that breaks a rule.
 pub fn scan_lists(p: &[u8], c: Cursor, n: usize, who: &[u16; 24], lead: &[u16; 16]) -> ListScan
-    requires { ⌜ n ≤ 24 ⌝ }
+    requires { ⌜ (n ≤ 24) × Sets (now who) ⌝ }
     ensures { λ r. ⌜ Left (listsFrom (now (p .entry)) (now (who .entry)) (now (lead .entry)) n 0 noLists c) r ⌝ }
 {
     let mut lists = no_lists();
@@ -138,7 +138,8 @@ pub fn scan_lists(p: &[u8], c: Cursor, n: usize, who: &[u16; 24], lead: &[u16; 1
     };
     let mut z = 0;
     'scan: while z < n {
-        let head = take_count(p, Cursor { at }, who[z]);
+        let visitors = who[z];
+        let head = take_count(p, Cursor { at }, visitors);
         match head {
             Taken::Refused(o) => {
                 outcome = o;
@@ -150,7 +151,7 @@ pub fn scan_lists(p: &[u8], c: Cursor, n: usize, who: &[u16; 24], lead: &[u16; 1
                 let mut seen = 0u16;
                 let mut e = 0;
                 while e < k as usize {
-                    let entry = take_cart(p, Cursor { at }, who[z], seen);
+                    let entry = take_cart(p, Cursor { at }, visitors, seen);
                     match entry {
                         Taken::Refused(o) => {
                             outcome = o;

@@ -30,19 +30,19 @@ pub fn who_visits(steps: &[u8; 16], zone: &[u8; 128]) -> [u16; 24]
 }
 
 // For each cart the carts that may be ahead of it: all but the higher-numbered of its lane.
-// From the last cart down, open holds for each lane the carts that are not on it or not passed yet.
+// From the last cart down, allowed holds for each lane the carts that may be ahead of its next cart.
 pub fn may_lead(lane: &[u8; 16]) -> [u16; 16]
     requires { ⌜ Lanes (now lane) ⌝ }
     ensures { λ r. ⌜ r ≡ mayLead (now (lane .entry)) ⌝ }
 {
-    let mut open = [65535u16; 16];
+    let mut allowed = [65535u16; 16];
     let mut lead = [0u16; 16];
     let mut i = 16;
     while 0 < i {
         i -= 1;
         let l = lane[i] as usize;
-        lead[i] = open[l];
-        open[l] = carts::without(open[l], i);
+        lead[i] = allowed[l];
+        allowed[l] = carts::without(allowed[l], i);
     }
     lead
 }

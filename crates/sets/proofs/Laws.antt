@@ -328,6 +328,9 @@ set-is n x test h e = has-ext n x (setBelow n test) h (set-below n test) (λ i l
 pub set-same : (n : ℕ) (test other : ℕ → Bool) → ((i : ℕ) → i < n → test i ≡ other i) → setBelow n test ≡ setBelow n other
 set-same n test other e = set-is n (setBelow n test) other (set-below n test) (λ i l. has-set-below n test i l ∙ e i l)
 
+pub set-none : (n : ℕ) (test : ℕ → Bool) → ((i : ℕ) → i < n → test i ≡ false) → setBelow n test ≡ 0
+set-none n test e = sym (set-is n 0 test (omega (arith, set-below n test)) (λ i l. has-none i ∙ sym (e i l)))
+
 pub ones-set : (n : ℕ) (test : ℕ → Bool) → ones (setBelow n test) ≡ countBelow n test
 ones-set n test = ones-passing n (setBelow n test) test (set-below n test) (has-set-below n test)
 

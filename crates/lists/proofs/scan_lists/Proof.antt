@@ -12,8 +12,6 @@ use borrow.Author.Needs.{needs}
 use Rattle.lists.proofs.scan_lists.Statement.{statement}
 use Rattle.lists.proofs.scan_lists.Tie as tie
 
--- The invariants say that the work from the loop's start is the work that is left: of the zones, and within one of its entries.
-
 abbrev Inv-loop : tie.InvT-loop
 Inv-loop p n who lead lists₀ at₀ outcome₀ z visitors k seen₀ e₀ lists at outcome seen e =
     (e ≤ k) × (outcome .number ≡ 0) × (cartsFrom p visitors lead z k 0 0 lists₀ (record { at = at₀ }) (listsFrom p who lead (n - (z + 1)) (z + 1)) ≡ cartsFrom p visitors lead z (k - e) e seen lists (record { at = at }) (listsFrom p who lead (n - (z + 1)) (z + 1)))

@@ -13,11 +13,11 @@ use sheet::blank_sheet;
 use words::Outcome;
 use words::refused;
 ghost use mathlib.Core.Path.{_≡_};
-ghost use Prim.Native.Nat.{_≤_, _<_};
+ghost use Prim.Native.Nat.{_<_};
 ghost use Rattle.sheet.specs.Valid.{Valid};
 ghost use Rattle.plan.specs.Reading.{planRefused, readPlan};
-ghost use Rattle.plan_reader.specs.Sets.{Routes, Lanes, whoVisits, mayLead, firstLate, aheadAt, gathered};
-ghost use Rattle.plan_reader.specs.Scan.{countTaken, cartTaken, noLists, listsFrom, Left, ordersFrom, headFrom};
+ghost use Rattle.lists.specs.Sets.{Routes};
+ghost use Rattle.plan_reader.specs.Scan.{aheadAt, aheadOf, fromLists, scan};
 
 // The carts ahead at x, which is 8 * i + j for step j of cart i: those ahead of it in the list of the step's zone, 0 if there is no such step.
 fn ahead_at(steps: &[u8; 16], zone: &[u8; 128], before: &[u16; 384], x: usize) -> u16
@@ -34,9 +34,9 @@ fn ahead_at(steps: &[u8; 16], zone: &[u8; 128], before: &[u16; 384], x: usize) -
 }
 
 // The carts ahead at each step.
-fn gather(steps: &[u8; 16], zone: &[u8; 128], before: &[u16; 384]) -> [u16; 128]
+fn ahead_of(steps: &[u8; 16], zone: &[u8; 128], before: &[u16; 384]) -> [u16; 128]
     requires { ⌜ Routes (now steps) (now zone) ⌝ }
-    ensures { λ r. ⌜ r ≡ gathered (now (steps .entry)) (now (zone .entry)) (now (before .entry)) ⌝ }
+    ensures { λ r. ⌜ r ≡ aheadOf (now (steps .entry)) (now (zone .entry)) (now (before .entry)) ⌝ }
 {
     let mut ahead = [0u16; 128];
     let mut x = 0;
@@ -66,9 +66,11 @@ fn plan_refused(outcome: Outcome) -> PlanRead
 // The lists; then no byte may follow (20), and no listed cart has a higher-numbered one of its lane ahead (21).
 fn read_lists(p: &[u8], c: Cursor, sheet: Sheet) -> PlanRead
     requires { ⌜ Valid sheet ⌝ }
-    ensures { λ r. ⌜ r ≡ ordersFrom (now (p .entry)) sheet c ⌝ }
+    ensures { λ r. ⌜ r ≡ fromLists (now (p .entry)) sheet c ⌝ }
 {
-    let who = who_visits(&sheet.steps, &sheet.zone);
+    let steps = sheet.steps;
+    let zone = sheet.zone;
+    let who = who_visits(&steps, &zone);
     let lead = may_lead(&sheet.lane);
     let scan = scan_lists(p, c, sheet.zones, &who, &lead);
     let outcome = scan.outcome;
@@ -83,7 +85,7 @@ fn read_lists(p: &[u8], c: Cursor, sheet: Sheet) -> PlanRead
     if lists.late != 0 {
         return plan_refused(refused(21, lists.late));
     }
-    let ahead = gather(&sheet.steps, &sheet.zone, &lists.before);
+    let ahead = ahead_of(&steps, &zone, &lists.before);
     let orders = Orders {
         count: lists.count,
         list: lists.list,
@@ -101,9 +103,9 @@ fn read_lists(p: &[u8], c: Cursor, sheet: Sheet) -> PlanRead
 }
 
 // The plan's fields in byte order: version, length, zone count, and the lists.
-fn read_fields(p: &[u8], sheet: Sheet) -> PlanRead
+fn read_head(p: &[u8], sheet: Sheet) -> PlanRead
     requires { ⌜ Valid sheet ⌝ }
-    ensures { λ r. ⌜ r ≡ headFrom (now (p .entry)) sheet ⌝ }
+    ensures { λ r. ⌜ r ≡ scan (now (p .entry)) sheet ⌝ }
 {
     let Field::Value(version, c) = one_byte(p, Cursor { at: 0 }) else {
         return plan_refused(refused(15, 0));
@@ -136,5 +138,5 @@ pub fn read_plan(s: &[u8], p: &[u8]) -> PlanRead
         return plan_refused(outcome);
     }
     let sheet = read.sheet;
-    read_fields(p, sheet)
+    read_head(p, sheet)
 }

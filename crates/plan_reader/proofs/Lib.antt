@@ -1,0 +1,3 @@
+pub mod ValidLaws
+pub mod AheadLaws
+pub mod LeftLaws

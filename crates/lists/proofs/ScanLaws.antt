@@ -1,13 +1,14 @@
 -- One turn of each loop of the scan, over what is left: `n - z` of n zones, `k - e` of k entries; and that a refusal has a number.
 use Prim.Native.Nat.{ℕ, _+_, _-_, _^_, _≤_, _<_}
-use mathlib.Core.Path.{_≡_, refl, subst}
-use mathlib.Core.Bool.{Bool, true, false, not, _&&_}
+use mathlib.Core.Path.{_≡_, subst}
+use mathlib.Core.Bool.{not, _&&_}
 use mathlib.Core.List.{List}
 use lib.Count.{ones}
 use lib.Dec.{eqb, lit<}
 use lib.ListN.{getD}
 use borrow.Author.Tests.{eqb-true}
 use Rattle.words.specs.declared.Outcome.{Outcome}
+use Rattle.words.proofs.Tests.{and-both}
 use Rattle.words.proofs.Left.{left-suc, left-zero}
 use Rattle.fields.specs.declared.Cursor.{Cursor}
 use Rattle.fields.proofs.TakingLaws.{taking-holds}
@@ -83,11 +84,7 @@ module _ (p : List ℕ) (who seen : ℕ) (few : who < 2 ^ 16) (c : Cursor) where
   unfolding cartTaken
   cart-fine =
       taking-holds (Fine (λ i. i < 16)) Refused 15 p 1 c 19 (λ i. has who i && not (has seen i)) Got (numbered (lit< tt)) (numbered (lit< tt)) λ i next e.
-      fine (has-below 16 who i few (first (has who i) _ e))
-    where
-      first : (a b : Bool) → (a && b) ≡ true → a ≡ true
-      first true b e = refl
-      first false b e = e
+      fine (has-below 16 who i few (and-both (has who i) _ e .0))
 
   pub cart-value : (i : ℕ) (next : Cursor) → cartTaken p who seen c ≡ Got i next → i < 16
   cart-value = fine-value cart-fine

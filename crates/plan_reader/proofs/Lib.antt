@@ -1,3 +1,5 @@
 pub mod ValidLaws
 pub mod AheadLaws
 pub mod LeftLaws
+pub mod Rows
+pub mod Listed

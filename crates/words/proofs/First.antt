@@ -1,8 +1,8 @@
 -- The first failing check: all before it pass, it fails, and the refusal has its number and place.
 use Prim.Native.Nat.{_<_}
-use mathlib.Core.Path.{_≡_, refl, ap, _∙_}
+use mathlib.Core.Path.{_≡_, refl, sym, ap, _∙_}
 use mathlib.Core.Bool.{Bool, true, false}
-use mathlib.Core.List.{List, [], _∷_, _++_}
+use mathlib.Core.List.{List, [], _∷_, _++_, append-assoc}
 use mathlib.Core.Logic.{_⊎_, inl, inr}
 use Rattle.words.specs.Checks.{Check, refused, firstFailing, AllPass, Numbered, FirstFails}
 use Rattle.words.specs.declared.Outcome.{Outcome}
@@ -42,3 +42,22 @@ numbered-fails checks c n h = go (h .earlier) (rw (h .split) at n)
     go : (earlier : List Check) → Numbered (earlier ++ (c ∷ h .later)) → 0 < c .number
     go [] m = m .0
     go (d ∷ earlier) m = go earlier (m .1)
+
+-- what checks follow does not matter to the one that fails first
+pub fails-append : (checks later : List Check) (c : Check) → FirstFails checks c → FirstFails (checks ++ later) c
+fails-append checks later c h =
+    record {
+      earlier = h .earlier;
+      later = h .later ++ later;
+      split = ap (λ (l : List Check). l ++ later) (h .split) ∙ append-assoc (h .earlier) (c ∷ h .later) later;
+      passed = h .passed;
+      fails = h .fails;
+    }
+
+-- only where all pass does the answer matter
+pub first-answers : {R : Type 0} (refuse : Outcome → R) (a b : R) (checks : List Check) → (AllPass checks → a ≡ b) → firstFailing refuse a checks ≡ firstFailing refuse b checks
+first-answers refuse a b checks h =
+    elim (pass-or-fail checks) [
+      | inl k ↦ pass-answers refuse a checks k ∙ h k ∙ sym (pass-answers refuse b checks k)
+      | inr (c, f) ↦ fails-refuses refuse a checks c f ∙ sym (fails-refuses refuse b checks c f)
+    ]

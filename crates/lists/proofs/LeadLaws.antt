@@ -12,7 +12,7 @@ use Rattle.words.specs.Lists.{pick, entries}
 use Rattle.words.proofs.Entries.{at-entry, entries-is, same-entries, put-entry}
 use Rattle.sets.specs.Member.{has, Without}
 use Rattle.sets.specs.Counting.{setBelow}
-use Rattle.sets.proofs.Laws.{has-set-below, set-is, set-same}
+use Rattle.sets.proofs.Counting.{has-set, set-is, set-same}
 use Rattle.lists.specs.Sets.{allButFrom, mayLead}
 
 -- all carts
@@ -65,7 +65,7 @@ module _ (lane : List ℕ) where
     allowed-next r l h w =
         ap (λ (x : List ℕ). set x own r) (e ∙ ap (λ (n : ℕ). entries 16 0 (allButFrom lane n)) down)
         ∙ put-entry 16 (allButFrom lane (i + 1)) (allButFrom lane i) own r l
-        (sym (set-is 16 r _ h (λ d q. w d ∙ ap (λ (x : ℕ). has x d && not (eqb d i)) (allowed-own l) ∙ ap (λ (b : Bool). b && not (eqb d i)) (has-set-below 16 _ d q) ∙ here d)))
+        (sym (set-is 16 r _ h (λ d q. w d ∙ ap (λ (x : ℕ). has x d && not (eqb d i)) (allowed-own l) ∙ ap (λ (b : Bool). b && not (eqb d i)) (has-set 16 _ d q) ∙ here d)))
         (λ x n. set-same 16 _ _ (λ d _. ap not (there x n d (ℕ-discrete d i))))
       where
         spread : (x y b : Bool) → (b ≡ true → y ≡ false) → (b ≡ false → y ≡ x) → (x && not b) ≡ y

@@ -6,7 +6,8 @@ use mathlib.Core.Logic.{_↔_}
 use Rattle.words.specs.Lists.{anyBelow}
 use Rattle.words.proofs.Any.{any-none, none-any}
 use Rattle.sets.specs.Member.{has, With, Within}
-use Rattle.sets.proofs.Laws.{within-below, set-is}
+use Rattle.sets.proofs.Laws.{within-below}
+use Rattle.sets.proofs.Counting.{set-is}
 use Rattle.lists.specs.Sets.{withCart}
 
 pub with-is : (seen i r : ℕ) → r < 2 ^ 16 → With seen i r → r ≡ withCart seen i

@@ -1,27 +1,29 @@
 -- A zone's list as sets: who is listed before an entry, who is ahead of it, and whether one of those may not be.
-use Prim.Native.Nat.{ℕ, zero, suc, _+_, _*_, _≤_, _<_}
+use Prim.Native.Nat.{ℕ, zero, suc, _+_, _<_}
 use mathlib.Core.Path.{_≡_, refl, sym, ap, _∙_}
-use mathlib.Core.Bool.{Bool, true, false, not, _&&_, _||_, false≢true, or-comm, Bool·not-not}
+use mathlib.Core.Bool.{Bool, true, false, not, _&&_, _||_, not-eq-not, or-comm, Bool·not-not}
 use mathlib.Core.List.{List}
 use native.Mathlib.Omega.{arith}
 use native.Mathlib.Numerals.{add-one}
 use native.Mathlib.Decide.{decLt}
 use lib.Count.{ones}
-use lib.Dec.{leb, ltb, eqb}
+use lib.Dec.{ltb, eqb}
 use lib.ListN.{getD}
-use borrow.Author.Tests.{lt-ltb, le-ltb, eqb-true, eqb-false, eq-eqb, ne-eqb}
-use Rattle.words.specs.Lists.{pick, anyBelow, entries}
-use Rattle.words.proofs.Any.{any-found, any-none, any-into, any-first, any-same}
+use borrow.Author.Tests.{eqb-true, eq-eqb, ne-eqb}
+use Rattle.words.specs.Lists.{anyBelow, entries}
+use Rattle.words.proofs.Any.{any-found, any-none, any-some, any-first, any-same}
 use Rattle.words.proofs.Entries.{at-entry}
 use Rattle.words.proofs.Tests.{and-both}
-use Rattle.sets.specs.Member.{has, With}
-use Rattle.sets.specs.Counting.{countBelow, setBelow}
-use Rattle.sets.proofs.Laws.{has-set, has-set-below, set-same, ones-set, ones-with, count-full}
-use Rattle.sheet.specs.Valid.{lane, steps, Valid}
+use Rattle.sets.specs.Member.{has}
+use Rattle.sets.specs.Counting.{setBelow}
+use Rattle.sets.proofs.Laws.{has-above}
+use Rattle.sets.proofs.Counting.{set-fits, has-set, set-same, ones-set}
+use Rattle.sheet.specs.Valid.{lane, Valid}
 use Rattle.sheet.specs.declared.Sheet.{Sheet}
 use Rattle.plan.specs.Layout.{countOf, cartOf, listOf}
 use Rattle.plan.specs.Lists.{visits, visitors, isAhead}
 use Rattle.plan.specs.Checks.{isListed, hasHigherAhead}
+use Rattle.plan.proofs.Visitors.{visitor-cart}
 use Rattle.lists.specs.Sets.{allButFrom, mayLead, whoVisits, withCart}
 
 same-tests : (a b : Bool) → (a ≡ true → b ≡ true) → (b ≡ true → a ≡ true) → a ≡ b
@@ -67,39 +69,13 @@ module _ (p : List ℕ) (z : ℕ) where
 
   pub seen-has : (e i : ℕ) → i < 16 → has (seen e) i ≡ isListed p z e i
   unfolding seen
-  seen-has e i l = has-set-below 16 (isListed p z e) i l
+  seen-has e i l = has-set 16 (isListed p z e) i l
 
   pub seen-more : (e : ℕ) → withCart (seen e) (cartOf p z e) ≡ seen (e + 1)
   unfolding seen
   seen-more e =
       set-same 16 _ _ λ d l.
-      ap (λ (b : Bool). b || eqb d (cartOf p z e)) (has-set-below 16 (isListed p z e) d l) ∙ sym (listed-swap e d)
-
-  -- one entry more is one cart more, where it is not listed before
-  seen-with : (e : ℕ) → cartOf p z e < 16 → With (seen e) (cartOf p z e) (seen (e + 1))
-  unfolding seen
-  seen-with e h i = has-set 16 (isListed p z (e + 1)) i ∙ go (decLt i 16) ∙ ap (λ (b : Bool). b || eqb i (cartOf p z e)) (sym (has-set 16 (isListed p z e) i))
-    where
-      go : Dec (i < 16) → (ltb i 16 && isListed p z (e + 1) i) ≡ ((ltb i 16 && isListed p z e i) || eqb i (cartOf p z e))
-      go (yes l) = rw (lt-ltb i 16 l) (listed-swap e i)
-      go (no n) = rw (le-ltb i 16 (omega (arith, n)), ne-eqb i (cartOf p z e) (λ q. n (omega arith)))
-
-  -- entries that are carts, and no cart twice
-  pub record Distinct (k : ℕ) : Type 0 where
-    pub carts : (e : ℕ) → e < k → cartOf p z e < 16
-    pub once : (e : ℕ) → e < k → isListed p z e (cartOf p z e) ≡ false
-
-  pub distinct-count : (k : ℕ) → Distinct k → countBelow 16 (isListed p z k) ≡ k
-  unfolding seen ones
-  distinct-count k h = sym (ones-set 16 (isListed p z k)) ∙ ones-seen k h
-    where
-      ones-seen : (n : ℕ) → Distinct n → ones (seen n) ≡ n
-      ones-seen zero d = ap ones (sym seen-none)
-      ones-seen (suc n) d =
-          let fewer : Distinct n = record { carts = λ e l. d .carts e (omega arith); once = λ e l. d .once e (omega arith) } in
-          let new : has (seen n) (cartOf p z n) ≡ false = seen-has n (cartOf p z n) (d .carts n (omega arith)) ∙ d .once n (omega arith) in
-          rw (← add-one n)
-          (ones-with (seen n) (cartOf p z n) (seen (n + 1)) new (seen-with n (d .carts n (omega arith))) ∙ ap suc (ones-seen n fewer) ∙ sym (add-one n))
+      ap (λ (b : Bool). b || eqb d (cartOf p z e)) (has-set 16 (isListed p z e) d l) ∙ sym (listed-swap e d)
 
   -- the carts ahead of entry e are those listed before it
   pub ahead-seen : (e : ℕ) → e < countOf p z → isListed p z e (cartOf p z e) ≡ false
@@ -121,22 +97,16 @@ module _ (sheet : Sheet) (valid : Valid sheet) where
   pub who-ones : (z : ℕ) → z < 24 → ones (who z) ≡ visitors sheet z
   who-ones z l = ap ones (who-is z l) ∙ ones-set 16 (λ i. visits sheet i z)
 
+  pub visits-below : (z i : ℕ) → visits sheet i z ≡ true → i < 16
+  visits-below z i t = omega (arith, valid .carts-most, visitor-cart sheet valid i z t)
+
   -- past 15 no cart visits
   pub who-has : (z i : ℕ) → z < 24 → has (who z) i ≡ visits sheet i z
-  unfolding anyBelow
-  who-has z i l = ap (λ (x : ℕ). has x i) (who-is z l) ∙ has-set 16 (λ k. visits sheet k z) i ∙ go (decLt i 16)
+  who-has z i l = ap (λ (x : ℕ). has x i) (who-is z l) ∙ go (decLt i 16)
     where
-      go : Dec (i < 16) → (ltb i 16 && visits sheet i z) ≡ visits sheet i z
-      go (yes m) = rw (lt-ltb i 16 m)
-      go (no n) = rw (le-ltb i 16 (omega (arith, n)), valid .unused .no-steps i (omega (arith, n, valid .carts-most)))
-
-  pub visits-below : (z i : ℕ) → visits sheet i z ≡ true → i < 16
-  unfolding anyBelow
-  visits-below z i t = go (decLt i 16)
-    where
-      go : Dec (i < 16) → i < 16
-      go (yes m) = m
-      go (no n) = absurd (false≢true (rw (valid .unused .no-steps i (omega (arith, n, valid .carts-most))) at t))
+      go : Dec (i < 16) → has (setBelow 16 (λ k. visits sheet k z)) i ≡ visits sheet i z
+      go (yes m) = has-set 16 (λ k. visits sheet k z) i m
+      go (no n) = has-above 16 _ i (set-fits 16 _) (omega (arith, n)) ∙ sym (not-eq-not {b = false} .0 (λ t. n (visits-below z i t)))
 
 abbrev pub lead : Sheet → ℕ → ℕ
 lead sheet i = getD (mayLead (sheet .lane)) i 0
@@ -145,7 +115,7 @@ lead-has : (sheet : Sheet) (i d : ℕ) → i < 16 → d < 16 → has (lead sheet
 unfolding mayLead
 lead-has sheet i d l m =
     ap (λ (x : ℕ). has x d) (at-entry 16 (λ k. allButFrom (sheet .lane) (k + 1) (lane sheet k)) i l)
-    ∙ has-set-below 16 _ d m
+    ∙ has-set 16 _ d m
     ∙ rw (add-one i)
 
 -- a cart is seen that may not be ahead, where a higher-numbered one of the lane is
@@ -163,12 +133,13 @@ late-is sheet p z e few l = any-same _ held 16 (λ d m. test d m) ∙ same-tests
     test d m = rw (seen-has p z e d m, lead-has sheet (cartOf p z e) d l m, Bool·not-not)
 
     to : anyBelow held 16 ≡ true → hasHigherAhead sheet p z e ≡ true
-    to =
-        any-into held 16 (hasHigherAhead sheet p z e) λ d m t.
-        let both : (isListed p z e d ≡ true) × (isHigher d ≡ true) = and-both (isListed p z e d) (isHigher d) t in
-        any-into (λ k. eqb (cartOf p z k) d) e (hasHigherAhead sheet p z e) (λ k q s. any-found (λ x. isHigher (cartOf p z x)) e k q (ap isHigher (eqb-true (cartOf p z k) d s) ∙ both .1)) (both .0)
+    to t =
+        let (d, _, here) = any-some held 16 t in
+        let both : (isListed p z e d ≡ true) × (isHigher d ≡ true) = and-both (isListed p z e d) (isHigher d) here in
+        let (k, m, same) = any-some (λ x. eqb (cartOf p z x) d) e (both .0) in
+        any-found (λ x. isHigher (cartOf p z x)) e k m (ap isHigher (eqb-true (cartOf p z k) d same) ∙ both .1)
 
     from : hasHigherAhead sheet p z e ≡ true → anyBelow held 16 ≡ true
-    from =
-        any-into (λ x. isHigher (cartOf p z x)) e (anyBelow held 16) λ k q t.
-        any-found held 16 (cartOf p z k) (few k q) (rw (any-found (λ x. eqb (cartOf p z x) (cartOf p z k)) e k q (eq-eqb (cartOf p z k) (cartOf p z k) refl)) t)
+    from t =
+        let (k, m, here) = any-some (λ x. isHigher (cartOf p z x)) e t in
+        any-found held 16 (cartOf p z k) (few k m) (rw (any-found (λ x. eqb (cartOf p z x) (cartOf p z k)) e k m (eq-eqb (cartOf p z k) (cartOf p z k) refl)) here)

@@ -1,19 +1,19 @@
 -- Membership in a number's binary digits, once over every number and every width.
 use Prim.Native.Nat.{ℕ, zero, suc, suc-le-suc, _+_, _-_, _*_, _/_, _%_, _^_, _≤_, _<_}
 use mathlib.Core.Path.{_≡_, refl, sym, ap, ap₂, _∙_, subst}
-use mathlib.Core.Logic.{_↔_, ⊎-elim}
-use mathlib.Core.Bool.{Bool, true, false, not, _&&_, _||_, false≢true, not-eq-not, and-self, and-true, or-false, or-true}
-use native.Mathlib.Nat.{div-one, mod-lt, zero-lt-suc, two-pow-succ, pow-suc, div-add-mod', div-eq-of-lt, mod-eq-of-lt, le-antisymm, eq-or-lt-of-le, le-of-suc-le-suc, lt-of-lt-of-le, lt-of-not-le, one-mul, add-left-comm, mul-mod-left, mul-div-cancel}
+use mathlib.Core.Logic.{_↔_}
+use mathlib.Core.Bool.{Bool, true, false, not, _&&_, _||_, false≢true, and-self, and-true, or-false, or-true}
+use native.Mathlib.Nat.{div-one, mod-lt, zero-lt-suc, two-pow-succ, pow-suc, div-add-mod', div-eq-of-lt, mod-eq-of-lt, le-antisymm, le-of-suc-le-suc, lt-of-lt-of-le, lt-of-not-le, one-mul, add-left-comm, mul-mod-left, mul-div-cancel}
 use native.Mathlib.Numerals.{one-add, add-one}
 use native.Mathlib.Omega.{arith}
-use lib.Dec.{ltb, eqb, leb·suc-suc, eqb·suc-zero, eqb·zero-suc, eqb·suc-suc}
+use lib.Dec.{eqb, eqb·suc-zero, eqb·zero-suc, eqb·suc-suc}
 use lib.Arith.{lt-one}
 use lib.Pow.{pow-lt, pow-mono, shr-lt, shr-shr}
 use lib.Bits.{bitAnd, bitOr, bitXor, and-shr, and-mod, or-shr, or-mod, xor-shr, xor-mod, and-le-r}
 use lib.Count.{ones, ones-step, trailingZeros, under}
-use borrow.Author.Tests.{lt-ltb, le-ltb, eqb-true, eq-eqb}
+use borrow.Author.Tests.{eqb-true, eq-eqb}
 use Rattle.sets.specs.Member.{has, With, Without, Less, Within, Lowest, Rest}
-use Rattle.sets.specs.Counting.{bit, countBelow, setBelow}
+use Rattle.sets.specs.Counting.{bit, countBelow}
 
 -- ---- a digit at a time
 
@@ -274,92 +274,3 @@ pub rest-same : (x r s : ℕ) → 0 < x → Rest x r → Rest x s → r ≡ s
 rest-same x r s p a b =
     let low = lowest-trailing x x p (lt-two-pow x) in
     has-same r s (λ j. a .others (trailingZeros x x) low j ∙ sym (b .others (trailingZeros x x) low j))
-
--- ---- the set that a test makes
-
-bit-below : (b : Bool) → bit b < 2
-bit-below true = omega arith
-bit-below false = omega arith
-
--- the lowest digit is the test's at 0, and the others hold the rest, one lower
-set-first : (n : ℕ) (test : ℕ → Bool) → setBelow (suc n) test ≡ bit (test 0) + 2 * setBelow n (λ i. test (suc i))
-unfolding setBelow
-set-first zero test = omega arith
-set-first (suc n) test = omega (arith, double (test (suc n)), set-first n test)
-  where
-    double : (b : Bool) → bit b * 2 ^ suc n ≡ 2 * (bit b * 2 ^ n)
-    double true = omega (arith, two-pow-succ n)
-    double false = omega arith
-
-pub set-below : (n : ℕ) (test : ℕ → Bool) → setBelow n test < 2 ^ n
-unfolding setBelow
-set-below zero test = omega arith
-set-below (suc n) test = omega (arith, two-pow-succ n, set-below n test, most (test n))
-  where
-    most : (b : Bool) → bit b * 2 ^ n ≤ 2 ^ n
-    most true = omega arith
-    most false = omega arith
-
--- its members are the numbers below n that pass
-pub has-set : (n : ℕ) (test : ℕ → Bool) (i : ℕ) → has (setBelow n test) i ≡ (ltb i n && test i)
-unfolding setBelow
-has-set zero test i = has-none i ∙ rw (le-ltb i 0 (omega arith))
-has-set (suc n) test zero =
-    let digit : setBelow (suc n) test % 2 ≡ bit (test 0) = omega (arith, set-first n test, bit-below (test 0)) in
-    has-zero (setBelow (suc n) test) ∙ rw (digit, lt-ltb 0 (suc n) (omega arith)) (says (test 0))
-  where
-    says : (b : Bool) → eqb (bit b) 1 ≡ b
-    says true = refl
-    says false = refl
-has-set (suc n) test (suc i) =
-    let half : setBelow (suc n) test / 2 ≡ setBelow n (λ k. test (suc k)) = omega (arith, set-first n test, bit-below (test 0)) in
-    has-suc (setBelow (suc n) test) i
-    ∙ ap (λ (x : ℕ). has x i) half
-    ∙ has-set n (λ k. test (suc k)) i
-    ∙ ap (λ (b : Bool). b && test (suc i)) (sym (leb·suc-suc (suc i) n))
-
-pub has-set-below : (n : ℕ) (test : ℕ → Bool) (i : ℕ) → i < n → has (setBelow n test) i ≡ test i
-has-set-below n test i l = has-set n test i ∙ rw (lt-ltb i n l)
-
--- a number of n digits whose members are those that pass
-pub set-is : (n x : ℕ) (test : ℕ → Bool) → x < 2 ^ n → ((i : ℕ) → i < n → has x i ≡ test i) → x ≡ setBelow n test
-set-is n x test h e = has-ext n x (setBelow n test) h (set-below n test) (λ i l. e i l ∙ sym (has-set-below n test i l))
-
-pub set-same : (n : ℕ) (test other : ℕ → Bool) → ((i : ℕ) → i < n → test i ≡ other i) → setBelow n test ≡ setBelow n other
-set-same n test other e = set-is n (setBelow n test) other (set-below n test) (λ i l. has-set-below n test i l ∙ e i l)
-
-pub set-none : (n : ℕ) (test : ℕ → Bool) → ((i : ℕ) → i < n → test i ≡ false) → setBelow n test ≡ 0
-set-none n test e = sym (set-is n 0 test (omega (arith, set-below n test)) (λ i l. has-none i ∙ sym (e i l)))
-
-pub ones-set : (n : ℕ) (test : ℕ → Bool) → ones (setBelow n test) ≡ countBelow n test
-ones-set n test = ones-passing n (setBelow n test) test (set-below n test) (has-set-below n test)
-
--- ---- where as many pass one test as another that all of them pass, the same pass both
-
-bit-least : (b c : Bool) → (b ≡ true → c ≡ true) → bit b ≤ bit c
-bit-least true true f = omega arith
-bit-least true false f = absurd (false≢true (f refl))
-bit-least false c f = omega arith
-
-module _ (test other : ℕ → Bool) where
-  count-least : (n : ℕ) → ((i : ℕ) → i < n → test i ≡ true → other i ≡ true) → countBelow n test ≤ countBelow n other
-  unfolding countBelow
-  count-least zero h = omega arith
-  count-least (suc n) h =
-      omega (arith, bit-least (test n) (other n) (h n (omega arith)), count-least n (λ i l. h i (omega arith)))
-
-  -- one that passes the other alone is one fewer
-  count-fewer : (n : ℕ) → ((i : ℕ) → i < n → test i ≡ true → other i ≡ true)
-      → (i : ℕ) → i < n → test i ≡ false → other i ≡ true → countBelow n test < countBelow n other
-  unfolding countBelow
-  count-fewer zero h i l e o = absurd (omega arith)
-  count-fewer (suc n) h i l e o =
-      let below : (j : ℕ) → j < n → test j ≡ true → other j ≡ true = λ j m. h j (omega arith) in
-      ⊎-elim
-      (λ (q : i ≡ n). omega (arith, ap bit (ap test (sym q) ∙ e), ap bit (ap other (sym q) ∙ o), count-least n below))
-      (λ (q : i < n). omega (arith, bit-least (test n) (other n) (h n (omega arith)), count-fewer n below i q e o))
-      (eq-or-lt-of-le (omega arith))
-
-  pub count-full : (n : ℕ) → ((i : ℕ) → i < n → test i ≡ true → other i ≡ true) → countBelow n other ≤ countBelow n test
-      → (i : ℕ) → i < n → other i ≡ true → test i ≡ true
-  count-full n h m i l o = not-eq-not {b = true} .0 (λ e. omega (arith, count-fewer n h i l e o))

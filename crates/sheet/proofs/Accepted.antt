@@ -1,6 +1,6 @@
 -- What an accepted sheet is: the bytes show it, so that what the checks say of the bytes holds of it.
 use Prim.Native.Nat.{ℕ, zero, suc, _+_, _*_, _≤_, _<_}
-use mathlib.Core.Path.{_≡_, refl, sym}
+use mathlib.Core.Path.{_≡_, refl, sym, ap}
 use mathlib.Core.List.{List}
 use native.Mathlib.Omega.{arith}
 use lib.ListN.{length}
@@ -10,6 +10,7 @@ use Rattle.sheet.specs.Layout.{zoneCount, followOf, crossOf, cartCountAt
 use Rattle.sheet.specs.Reading.{sheetOf, sheetDone, readSheet}
 use Rattle.sheet.specs.Valid.{steps, Shaped, UnusedZero, ValidStep, ValidCart, Valid}
 use Rattle.sheet.specs.declared.Sheet.{Sheet}
+use Rattle.sheet.specs.declared.SheetRead.{SheetRead}
 use Rattle.sheet.proofs.Passing.{CartPasses, SheetPasses, passing, accepted-passes, passes-accepted}
 use Rattle.sheet.proofs.Tables.{IsStep, table-used, table-unused, step-used, step-unused}
 use Rattle.sheet.proofs.Shows.{ShowsZone, ShowsStep, ShowsCart, Shows}
@@ -162,3 +163,7 @@ module _ (s : List ℕ) (e : readSheet s .outcome .number ≡ 0) where
       let p = accepted-fields in
       let most = cart-at-most s (cartCount s) (λ i l. p .cart i l .steps .keeps .1) in
       (omega arith, omega arith)
+
+pub done-valid : (s : List ℕ) (sheet : Sheet) → readSheet s ≡ sheetDone sheet → Valid sheet
+done-valid s sheet e =
+    rw (ap (λ (r : SheetRead). r .sheet) e) at (accepted-valid s (ap (λ (r : SheetRead). r .outcome .number) e))

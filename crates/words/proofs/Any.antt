@@ -1,7 +1,7 @@
 -- A search below a bound: what it says while it goes on, and where it has found.
 use Prim.Native.Nat.{ℕ, zero, suc, _+_, _≤_, _<_}
 use mathlib.Core.Path.{_≡_, refl, sym, ap, _∙_}
-use mathlib.Core.Bool.{Bool, true, false, _||_, true≢false, false≢true, not-eq-not, or-true}
+use mathlib.Core.Bool.{Bool, true, false, _||_, true≢false, or-true}
 use mathlib.Core.Logic.{⊎-elim}
 use native.Mathlib.Omega.{arith}
 use native.Mathlib.Numerals.{add-one}
@@ -26,6 +26,17 @@ any-found test (suc n) k h e =
 pub any-none : (test : ℕ → Bool) (n : ℕ) → anyBelow test n ≡ false → (k : ℕ) → k < n → test k ≡ true → ⊥
 any-none test n e k h t = true≢false (rw (any-found test n k h t) at e)
 
+-- where something is found, the test holds at a number passed
+pub any-some : (test : ℕ → Bool) (n : ℕ) → anyBelow test n ≡ true → (k : ℕ) × (k < n) × (test k ≡ true)
+unfolding anyBelow
+any-some test zero e = absurd (true≢false (sym e))
+any-some test (suc n) e = go (test n) refl (any-some test n) e
+  where
+    go : (b : Bool) → test n ≡ b → (anyBelow test n ≡ true → (k : ℕ) × (k < n) × (test k ≡ true)) → b || anyBelow test n ≡ true
+        → (k : ℕ) × (k < suc n) × (test k ≡ true)
+    go true t below found = (n, omega arith, t)
+    go false t below found = let (k, l, here) = below found in (k, omega arith, here)
+
 -- where the test fails at each number, nothing is found
 pub none-any : (test : ℕ → Bool) (n : ℕ) → ((k : ℕ) → k < n → test k ≡ false) → anyBelow test n ≡ false
 unfolding anyBelow
@@ -37,12 +48,6 @@ pub any-same : (test other : ℕ → Bool) (n : ℕ) → ((k : ℕ) → k < n �
 unfolding anyBelow
 any-same test other zero h = refl
 any-same test other (suc n) h = rw (h n (omega arith), any-same test other n (λ k l. h k (omega arith)))
-
--- what each number found shows, a search that finds shows
-pub any-into : (test : ℕ → Bool) (n : ℕ) (b : Bool) → ((k : ℕ) → k < n → test k ≡ true → b ≡ true) → anyBelow test n ≡ true → b ≡ true
-any-into test n true h e = refl
-any-into test n false h e =
-    absurd (true≢false (sym e ∙ none-any test n (λ k l. not-eq-not {b = false} .0 (λ t. false≢true (h k l t)))))
 
 -- the first number apart
 pub any-first : (test : ℕ → Bool) (n : ℕ) → anyBelow test (suc n) ≡ (test 0 || anyBelow (λ k. test (suc k)) n)

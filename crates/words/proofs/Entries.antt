@@ -40,6 +40,12 @@ each-last {A} (suc n) i rule =
     let next : i + 1 + n ≡ i + suc n = omega arith in
     ap (λ (l : List A). rule i ++ l) (each-last n (i + 1) rule) ∙ sym (append-assoc (rule i) (each n (i + 1) rule) (rule (i + 1 + n))) ∙ rw next
 
+pub length-each-most : {A : Type 0} (n i w : ℕ) (rule : ℕ → List A) → ((k : ℕ) → k < i + n → length (rule k) ≤ w) → length (each n i rule) ≤ w * n
+unfolding each
+length-each-most zero i w rule h = omega arith
+length-each-most (suc n) i w rule h =
+    rw (length-append, mul-suc) (omega (arith, h i (omega arith), length-each-most n (i + 1) w rule (λ k l. h k (omega arith))))
+
 -- entry x, by number
 pub at-entry : (n : ℕ) (rule : ℕ → ℕ) (x : ℕ) → x < n → getD (entries n 0 rule) x 0 ≡ rule x
 at-entry n rule x h = getD-entries n 0 rule x 0 h ∙ ap rule (omega arith)

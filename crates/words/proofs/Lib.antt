@@ -6,3 +6,4 @@ pub mod All
 pub mod First
 pub mod Tests
 pub mod Says
+pub mod Tables

@@ -1,0 +1,51 @@
+ghost use mathlib.Core.Path.{_≡_};
+ghost use Prim.Native.Nat.{_+_, _≤_, _<_};
+ghost use lib.ListN.{length, getD};
+ghost use lib.Seq.{sets};
+ghost use Rattle.plan.specs.Written.{listBytes, written};
+ghost use Rattle.plan_writer.specs.Writing.{lent, Writable, WritableList};
+
+// Zone z's list, written from a place on.
+fn write_list<'a>(
+    count: &'a [u8; 24],
+    list: &'a [u8; 384],
+    z: usize,
+    room: &mut [u8],
+    at: usize,
+) -> usize
+    requires { ⌜ (z < 24) × WritableList (lent (now count) (now list)) z × (at + 1 + getD (now count) z 0 ≤ length (now room)) ⌝ }
+    ensures end { λ r. ⌜ r ≡ at + 1 + getD (now (count .entry)) z 0 ⌝ }
+    ensures bytes { λ r. ⌜ now (room .exit) ≡ sets (now (room .entry)) at (listBytes (lent (now (count .entry)) (now (list .entry))) z) ⌝ }
+{
+    let n = count[z] as usize;
+    room[at] = count[z];
+    let mut k = 0;
+    while k < n {
+        room[at + 1 + k] = list[16 * z + k];
+        k += 1;
+    }
+    at + 1 + n
+}
+
+// The orders of n zones, written as a plan of total bytes at the start of the room; the bytes beyond are untouched.
+pub fn write_plan<'a>(
+    n: usize,
+    total: usize,
+    count: &'a [u8; 24],
+    list: &'a [u8; 384],
+    room: &mut [u8],
+)
+    requires { ⌜ Writable n (lent (now count) (now list)) (now room) × (total ≡ length (written n (lent (now count) (now list)))) ⌝ }
+    ensures { λ r. ⌜ now (room .exit) ≡ sets (now (room .entry)) 0 (written n (lent (now (count .entry)) (now (list .entry)))) ⌝ }
+{
+    room[0] = 1;
+    room[1] = (total / 256 % 256) as u8;
+    room[2] = (total % 256) as u8;
+    room[3] = n as u8;
+    let mut at = 4;
+    let mut z = 0;
+    while z < n {
+        at = write_list(count, list, z, room, at);
+        z += 1;
+    }
+}

@@ -3,3 +3,5 @@ pub mod AheadLaws
 pub mod LeftLaws
 pub mod Rows
 pub mod Listed
+pub mod ListTables
+pub mod Late

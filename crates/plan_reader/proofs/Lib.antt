@@ -5,3 +5,4 @@ pub mod Rows
 pub mod Listed
 pub mod ListTables
 pub mod Late
+pub mod Agrees

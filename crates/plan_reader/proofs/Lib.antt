@@ -6,3 +6,4 @@ pub mod Listed
 pub mod ListTables
 pub mod Late
 pub mod Agrees
+pub mod Answer

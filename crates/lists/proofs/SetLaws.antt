@@ -1,6 +1,6 @@
 -- The sets' operations as the definitions have them: sets by a test.
 use Prim.Native.Nat.{ℕ, _^_, _<_}
-use mathlib.Core.Path.{_≡_, refl, sym, ap, _∙_}
+use mathlib.Core.Path.{_≡_, refl, ap}
 use mathlib.Core.Bool.{Bool, true, false, not, _&&_, false≢true, not-eq-not}
 use mathlib.Core.Logic.{_↔_}
 use Rattle.words.specs.Lists.{anyBelow}

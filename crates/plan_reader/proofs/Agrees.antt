@@ -1,19 +1,18 @@
 -- The one pass is the table's answer: each turn of a loop makes the checks of one list or of one entry, in their order.
-use Prim.Native.Nat.{ℕ, zero, suc, _+_, _*_, _≤_, _<_}
+use Prim.Native.Nat.{ℕ, zero, suc, _+_, _≤_, _<_}
 use mathlib.Core.Path.{_≡_, refl, sym, ap, _∙_}
 use mathlib.Core.Bool.{Bool, true, false, not, _&&_}
 use mathlib.Core.List.{List, [], _∷_, _++_, append-nil, append-assoc}
 use native.Mathlib.Omega.{arith}
 use native.Mathlib.Numerals.{add-one}
 use native.Mathlib.Decide.{decLt}
-use lib.Count.{ones}
 use lib.Dec.{eqb}
-use lib.ListN.{length, getD, set}
+use lib.ListN.{length, getD}
 use borrow.Author.Tests.{eqb-true, not-true}
-use Rattle.words.specs.Lists.{pick, each}
+use Rattle.words.specs.Lists.{each}
 use Rattle.words.specs.Checks.{Check, check, firstFailing}
 use Rattle.words.proofs.Tests.{and-both}
-use Rattle.fields.specs.Field.{value, fieldChecks}
+use Rattle.fields.specs.Field.{fieldChecks}
 use Rattle.fields.specs.declared.Cursor.{Cursor}
 use Rattle.fields.proofs.TakingLaws.{taking-checks, pick-checks}
 use Rattle.sets.specs.Member.{has}
@@ -22,13 +21,13 @@ use Rattle.sheet.specs.Reading.{table}
 use Rattle.sheet.specs.declared.Sheet.{Sheet}
 use Rattle.plan.specs.Layout.{countAt, countOf, cartAt, cartOf}
 use Rattle.plan.specs.Lists.{visits, visitors}
-use Rattle.plan.specs.Checks.{field, isListed, hasHigherAhead, cartChecks, listChecks, laneChecks, planChecks}
+use Rattle.plan.specs.Checks.{isListed, cartChecks, listChecks, laneChecks, planChecks}
 use Rattle.plan.specs.Reading.{planRefused, planDone}
 use Rattle.plan.specs.declared.PlanRead.{PlanRead}
 use Rattle.plan.proofs.Visitors.{visitors-most}
 use Rattle.reader.proofs.Tables.{table-none, table-put}
 use Rattle.lists.specs.Sets.{whoVisits, mayLead, withCart, firstLate}
-use Rattle.lists.specs.Scan.{countTaken, cartTaken, noLists, putCount, putCart, Scanned, Read, Broken, onTaken, cartsFrom, listsFrom}
+use Rattle.lists.specs.Scan.{countTaken, cartTaken, noLists, putCount, putCart, Scanned, onTaken, cartsFrom, listsFrom}
 use Rattle.lists.specs.declared.Lists.{Lists}
 use Rattle.lists.specs.declared.Taken.{Taken}
 use Rattle.lists.specs.declared.Taken.the-variants.{Got, Refused}

@@ -1,17 +1,18 @@
 -- Where all checks pass, the pass answers with the orders that the bytes say: each zone lists all its visitors, so each step's set is there.
 use Prim.Native.Nat.{ℕ, _+_, _*_, _/_, _%_, _<_}
-use mathlib.Core.Path.{_≡_, refl, sym, ap, ap₂, _∙_}
+use mathlib.Core.Path.{_≡_, refl, sym, ap, _∙_}
 use mathlib.Core.Bool.{Bool, true, false, _&&_}
 use mathlib.Core.List.{List, _++_}
 use native.Mathlib.Omega.{arith}
 use lib.Dec.{ltb, eqb}
 use lib.ListN.{getD}
 use borrow.Author.Tests.{ltb-true, lt-ltb, le-ltb, eqb-true, eq-eqb}
-use Rattle.words.specs.Lists.{pick, entries}
+use Rattle.words.specs.Lists.{pick}
 use Rattle.words.specs.Checks.{AllPass}
 use Rattle.words.proofs.Any.{any-some, any-found}
 use Rattle.words.proofs.Entries.{at-entry, same-entries}
 use Rattle.words.proofs.First.{first-pass, first-answers, fails-refuses, fails-append}
+use Rattle.words.proofs.Tables.{row-at, column-at}
 use Rattle.sets.specs.Counting.{countBelow}
 use Rattle.sets.proofs.Counting.{count-full}
 use Rattle.sheet.specs.Checks.{sheetChecks}
@@ -22,15 +23,14 @@ use Rattle.sheet.specs.declared.SheetRead.{SheetRead}
 use Rattle.sheet.proofs.Passing.{passes-accepted, accepted-passes}
 use Rattle.sheet.proofs.Refused.{refused-fails}
 use Rattle.sheet.proofs.Accepted.{accepted-valid}
-use Rattle.plan.specs.Layout.{countOf, cartOf, listOf}
-use Rattle.plan.specs.Lists.{visits, isAhead}
+use Rattle.plan.specs.Layout.{countOf, cartOf}
+use Rattle.plan.specs.Lists.{visits}
 use Rattle.plan.specs.Checks.{isListed, planChecks}
 use Rattle.plan.specs.Reading.{planRefused, planDone, aheadOf as saidAhead, ordersOf as saidOrders, readPlan}
-use Rattle.plan.specs.declared.Orders.{Orders}
 use Rattle.plan.proofs.Passing.{PlanPasses, passing}
 use Rattle.plan.proofs.Visitors.{count-values, step-valid, step-cart}
-use Rattle.plan_reader.specs.Scan.{aheadAt, aheadOf, scan}
-use Rattle.plan_reader.proofs.Rows.{row, column, rows-all}
+use Rattle.plan_reader.specs.Scan.{aheadOf, scan}
+use Rattle.plan_reader.proofs.Rows.{rows-all}
 use Rattle.plan_reader.proofs.Listed.{visits-below}
 use Rattle.plan_reader.proofs.ListTables.{listRule, beforeRule, listed, before}
 use Rattle.plan_reader.proofs.Agrees.{answer, scan-agrees}
@@ -60,7 +60,7 @@ module _ (sheet : Sheet) (valid : Valid sheet) (p : List ℕ) where
         let visiting : visits sheet i z ≡ true = any-found (λ k. eqb (zone sheet i k) z) (steps sheet i) j l (eq-eqb z z refl) in
         ap (λ (x : List ℕ). getD x (16 * z + i) 0) (rows-all (countOf p) (beforeRule p) (sheet .zones))
         ∙ at-entry 384 _ (16 * z + i) (omega (arith, valid .zones-most))
-        ∙ rw (row z i cart, column z i cart, lt-ltb z (sheet .zones) below, all-listed z i below visiting)
+        ∙ rw (row-at z i cart, column-at z i cart, lt-ltb z (sheet .zones) below, all-listed z i below visiting)
 
     ahead-is : aheadOf (sheet .steps) (sheet .zone) (before p (sheet .zones) 0) ≡ saidOrders sheet p .ahead
     unfolding aheadOf saidOrders

@@ -44,7 +44,7 @@ ahead-is rule (suc n) s zero i d l e h = rw (eq-eqb (rule s) i (ap rule (omega a
 ahead-is rule (suc n) s (suc k) i d l e h =
     let start : s + 0 ≡ s = omega arith in
     let later : isAhead (entries n (s + 1) rule) i d ≡ anyBelow (λ m. eqb (rule (s + 1 + m)) d) k =
-        ahead-is rule n (s + 1) k i d (omega arith) (ap rule (omega arith) ∙ e) (λ m q r. h (suc m) (omega arith) (ap rule (omega arith) ∙ r)) in
+    ahead-is rule n (s + 1) k i d (omega arith) (ap rule (omega arith) ∙ e) (λ m q r. h (suc m) (omega arith) (ap rule (omega arith) ∙ r)) in
     rw (ne-eqb (rule s) i (λ q. h 0 (omega arith) (ap rule start ∙ q)))
     (ap (λ (b : Bool). eqb (rule s) d || b) (later ∙ any-same _ _ k (λ m _. ap (λ (x : ℕ). eqb (rule x) d) (omega arith)))
     ∙ ap (λ (x : ℕ). eqb (rule x) d || anyBelow (λ m. eqb (rule (s + suc m)) d) k) (sym start)

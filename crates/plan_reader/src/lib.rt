@@ -78,10 +78,10 @@ fn read_lists(p: &[u8], c: Cursor, sheet: Sheet) -> PlanRead
         return plan_refused(outcome);
     }
     let at = scan.at;
+    let lists = scan.lists;
     if at != p.len() {
         return plan_refused(refused(20, at));
     }
-    let lists = scan.lists;
     if lists.late != 0 {
         return plan_refused(refused(21, lists.late));
     }

@@ -3,7 +3,6 @@ use Prim.Native.Nat.{_/_}
 use native.Mathlib.Omega.{arith}
 use borrow.Author.Tests.{lt-ltb, le-ltb}
 use Rattle.plan_reader.proofs.AheadLaws.{zone-known}
-use borrow.Author.Needs.{needs}
 use Rattle.plan_reader.proofs.ahead_at.Statement.{statement}
 use Rattle.plan_reader.proofs.ahead_at.Tie as tie
 

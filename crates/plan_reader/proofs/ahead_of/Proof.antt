@@ -1,9 +1,8 @@
 -- The loop keeps that the entries before x are the definition's.
 use Prim.Native.Nat.{_-_, _≤_}
-use mathlib.Core.Path.{_≡_, ap, _∙_}
+use mathlib.Core.Path.{_≡_, _∙_}
 use native.Mathlib.Omega.{arith}
 use Rattle.plan_reader.proofs.AheadLaws.{aheadBelow, ahead-none, ahead-next, ahead-all}
-use borrow.Author.Needs.{needs}
 use Rattle.plan_reader.proofs.ahead_of.Statement.{statement}
 use Rattle.plan_reader.proofs.ahead_of.Tie as tie
 

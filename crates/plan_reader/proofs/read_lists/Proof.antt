@@ -1,6 +1,5 @@
 -- Each way out is what is left of the pass where the scan of the lists is left, by the tests that follow it.
 use mathlib.Core.Path.{sym, _∙_}
-use native.Mathlib.Omega.{arith}
 use borrow.Author.Tests.{eq-eqb, ne-eqb}
 use Rattle.lists.proofs.VisitLaws.{visits-sets}
 use Rattle.plan_reader.specs.Scan.{finish}
@@ -33,7 +32,7 @@ plan-refused-requires-2 c κs = search needs
 
 returns-2 : tie.Need-returns-2
 unfolding finish
-returns-2 c = rw (c .plan-refused2 .ensures, c .before .refused .ensures, left-read _ (c .before .before .before .before .before .before .before .before .before .before .before .before .before .before .before .before .before .before .args .t3) _ _ _ _ (c .before .before .before .before .before .before .before .before .before .before .before .before .who-visits .ensures) (c .before .before .before .before .before .before .before .before .before .may-lead .ensures) (c .before .before .before .before .before .before .scan-lists .ensures) (c .before .before .before .if1 .left), ne-eqb _ _ (c .before .before .if2 .taken))
+returns-2 c = rw (c .plan-refused2 .ensures, c .before .refused .ensures, left-read _ (c .before .before .before .before .before .before .before .before .before .before .before .before .before .before .before .before .before .before .before .args .t3) _ _ _ _ (c .before .before .before .before .before .before .before .before .before .before .before .before .before .who-visits .ensures) (c .before .before .before .before .before .before .before .before .before .before .may-lead .ensures) (c .before .before .before .before .before .before .before .scan-lists .ensures) (c .before .before .before .before .if1 .left), ne-eqb _ _ (c .before .before .if2 .taken))
 
 refused-requires-2 : tie.Need-refused-requires-2
 refused-requires-2 c κs = search needs
@@ -43,14 +42,14 @@ plan-refused-requires-3 c κs = search needs
 
 returns-3 : tie.Need-returns-3
 unfolding finish
-returns-3 c = rw (c .plan-refused3 .ensures, c .before .refused2 .ensures, left-read _ (c .before .before .before .before .before .before .before .before .before .before .before .before .before .before .before .before .before .before .before .before .args .t3) _ _ _ _ (c .before .before .before .before .before .before .before .before .before .before .before .before .before .before .who-visits .ensures) (c .before .before .before .before .before .before .before .before .before .before .before .may-lead .ensures) (c .before .before .before .before .before .before .before .before .scan-lists .ensures) (c .before .before .before .before .before .if1 .left), eq-eqb _ _ (c .before .before .before .before .if2 .left), ne-eqb _ _ (c .before .before .if3 .taken))
+returns-3 c = rw (c .plan-refused3 .ensures, c .before .refused2 .ensures, left-read _ (c .before .before .before .before .before .before .before .before .before .before .before .before .before .before .before .before .before .before .before .before .args .t3) _ _ _ _ (c .before .before .before .before .before .before .before .before .before .before .before .before .before .before .who-visits .ensures) (c .before .before .before .before .before .before .before .before .before .before .before .may-lead .ensures) (c .before .before .before .before .before .before .before .before .scan-lists .ensures) (c .before .before .before .before .before .if1 .left), eq-eqb _ _ (c .before .before .before .if2 .left), ne-eqb _ _ (c .before .before .if3 .taken))
 
 ahead-of-requires : tie.Need-ahead-of-requires
 ahead-of-requires c κs = valid-routes _ (c .before .before .before .before .before .before .before .before .before .before .before .before .before .before .before .before .before .before .before .before .before .before .pre)
 
 returns-4 : tie.Need-returns-4
 unfolding finish
-returns-4 c = rw (left-read _ (c .before .before .before .before .before .before .before .before .before .before .before .before .before .before .before .before .before .before .before .before .before .before .before .before .before .args .t3) _ _ _ _ (c .before .before .before .before .before .before .before .before .before .before .before .before .before .before .before .before .before .before .before .who-visits .ensures) (c .before .before .before .before .before .before .before .before .before .before .before .before .before .before .before .before .may-lead .ensures) (c .before .before .before .before .before .before .before .before .before .before .before .before .before .scan-lists .ensures) (c .before .before .before .before .before .before .before .before .before .before .if1 .left), eq-eqb _ _ (c .before .before .before .before .before .before .before .before .before .if2 .left), eq-eqb _ _ (c .before .before .before .before .before .before .before .if3 .left), c .before .before .ahead-of .ensures)
+returns-4 c = rw (left-read _ (c .before .before .before .before .before .before .before .before .before .before .before .before .before .before .before .before .before .before .before .before .before .before .before .before .before .args .t3) _ _ _ _ (c .before .before .before .before .before .before .before .before .before .before .before .before .before .before .before .before .before .before .before .who-visits .ensures) (c .before .before .before .before .before .before .before .before .before .before .before .before .before .before .before .before .may-lead .ensures) (c .before .before .before .before .before .before .before .before .before .before .before .before .before .scan-lists .ensures) (c .before .before .before .before .before .before .before .before .before .before .if1 .left), eq-eqb _ _ (c .before .before .before .before .before .before .before .before .if2 .left), eq-eqb _ _ (c .before .before .before .before .before .before .before .if3 .left), c .before .before .ahead-of .ensures)
 
 pub read-lists-spec : {M : Type 1} → statement M
 read-lists-spec =

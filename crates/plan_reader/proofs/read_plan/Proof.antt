@@ -1,8 +1,7 @@
 -- A refused sheet's outcome is the plan's; of an accepted one the pass over the plan is the table's answer.
-use mathlib.Core.Path.{_≡_, sym, ap, _∙_}
+use mathlib.Core.Path.{sym, ap, _∙_}
 use Rattle.sheet.specs.declared.SheetRead.{SheetRead}
 use Rattle.sheet.proofs.Accepted.{accepted-valid}
-use Rattle.plan_reader.specs.Scan.{scan}
 use Rattle.plan_reader.proofs.Answer.{read-refused, read-accepted}
 use borrow.Author.Needs.{needs}
 use Rattle.plan_reader.proofs.read_plan.Statement.{statement}

@@ -3,13 +3,20 @@ use mathlib.Core.Path.{_≡_, sym, _∙_}
 use mathlib.Core.Logic.{_⊎_, inl, inr}
 use mathlib.Core.List.{List}
 use Prim.Native.Nat.{ℕ}
+use lib.ListN.{length}
 use Rattle.words.specs.Checks.{Check, firstFailing, AllPass, FirstFails}
 use Rattle.words.specs.declared.Outcome.{Outcome}
 use Rattle.words.proofs.First.{pass-answers, fails-refuses, pass-or-fail}
 use Rattle.sheet.specs.Checks.{sheetChecks}
 use Rattle.sheet.specs.Reading.{sheetRefused, sheetDone, sheetOf, readSheet}
 use Rattle.sheet.specs.declared.SheetRead.{SheetRead}
-use Rattle.demands.specs.DemandOne.{AnswersOrRefuses, answers, refuses}
+use Rattle.plan.specs.Reading.{ordersOf, planRefused, planDone, readingChecks, readPlan}
+use Rattle.plan.specs.declared.PlanRead.{PlanRead}
+use Rattle.plan_writer.specs.Writing.{writingChecks, notWritten, wrote, withPlan, writeAgain, roomAfter}
+use Rattle.plan_writer.specs.declared.PlanWritten.{PlanWritten}
+use Rattle.zone_list.specs.Finding.{findingChecks, notFound, listFound, findList}
+use Rattle.zone_list.specs.declared.ListFound.{ListFound}
+use Rattle.demands.specs.DemandOne.{AnswersOrRefuses, answers, refuses, ReadingASheet, ReadingAPlan, WritingAgain, FindingAList}
 
 -- the first failing check decides: so for every operation that is defined by one
 answers-or-refuses : {R : Type 0} (refuse : Outcome → R) (answer : R) (checks : List Check) (r : R) → r ≡ firstFailing refuse answer checks → AnswersOrRefuses refuse answer checks r
@@ -19,6 +26,22 @@ answers-or-refuses refuse answer checks r e = go (pass-or-fail checks)
     go (inl h) = answers h (e ∙ pass-answers refuse answer checks h)
     go (inr (c, h)) = refuses c h (e ∙ fails-refuses refuse answer checks c h)
 
-pub reading-a-sheet : (s : List ℕ) (r : SheetRead) → r ≡ readSheet s → AnswersOrRefuses sheetRefused (sheetDone (sheetOf s)) (sheetChecks s) r
+pub reading-a-sheet : (s : List ℕ) (r : SheetRead) → r ≡ readSheet s → ReadingASheet s r
 unfolding readSheet
 reading-a-sheet s r e = answers-or-refuses sheetRefused (sheetDone (sheetOf s)) (sheetChecks s) r e
+
+pub reading-a-plan : (s p : List ℕ) (r : PlanRead) → r ≡ readPlan s p → ReadingAPlan s p r
+unfolding readPlan
+reading-a-plan s p r e = answers-or-refuses planRefused (planDone (sheetOf s) (ordersOf (sheetOf s) p)) (readingChecks s p) r e
+
+pub writing-again : (s p room : List ℕ) (r : PlanWritten) (after : List ℕ) → r ≡ writeAgain s p (length room) → after ≡ roomAfter s p room → WritingAgain s p room r after
+unfolding writeAgain roomAfter
+writing-again s p room r after e f =
+    record {
+      answer = answers-or-refuses notWritten (wrote s) (writingChecks s p (length room)) r e;
+      holds = answers-or-refuses (λ _. room) (withPlan s p room) (writingChecks s p (length room)) after f;
+    }
+
+pub finding-a-list : (s p : List ℕ) (zone : ℕ) (r : ListFound) → r ≡ findList s p zone → FindingAList s p zone r
+unfolding findList
+finding-a-list s p zone r e = answers-or-refuses notFound (listFound p zone) (findingChecks s p zone) r e

@@ -1,2 +1,3 @@
 pub mod DemandOne
+pub mod DemandTwo
 pub mod Examples

@@ -5,10 +5,12 @@ use mathlib.Core.Bool.{Bool, true, false}
 use native.Mathlib.Omega.{arith}
 use native.Mathlib.Nat.{div-eq-of-lt, mul-add-div-right, mul-le-mul-right, pow-succ', two-pow-succ}
 use native.Mathlib.Decide.{ℕ-discrete}
+use lib.Count.{ones}
 use lib.Dec.{eqb}
 use lib.Pow.{pow-pos, pow-add}
 use Rattle.sets.specs.Member.{has}
 use Rattle.sets.specs.Counting.{bit, countBelow, setBelow}
+use Rattle.sets.proofs.Laws.{has-none, has-ext, ones-passing}
 
 bit-most : (b : Bool) → bit b ≤ 1
 bit-most true = omega arith
@@ -107,3 +109,16 @@ has-set (suc n) test i l =
       | yes q ↦ rw q (has-top n (setBelow n test) (test n) (set-fits n test))
       | no q ↦ has-under n i (bit (test n)) (setBelow n test) (omega arith) ∙ has-set n test i (omega arith)
     ]
+
+-- a number of n digits whose members are those that pass
+pub set-is : (n x : ℕ) (test : ℕ → Bool) → x < 2 ^ n → ((i : ℕ) → i < n → has x i ≡ test i) → x ≡ setBelow n test
+set-is n x test h e = has-ext n x (setBelow n test) h (set-fits n test) (λ i l. e i l ∙ sym (has-set n test i l))
+
+pub set-same : (n : ℕ) (test other : ℕ → Bool) → ((i : ℕ) → i < n → test i ≡ other i) → setBelow n test ≡ setBelow n other
+set-same n test other e = set-is n (setBelow n test) other (set-fits n test) (λ i l. has-set n test i l ∙ e i l)
+
+pub set-none : (n : ℕ) (test : ℕ → Bool) → ((i : ℕ) → i < n → test i ≡ false) → setBelow n test ≡ 0
+set-none n test e = sym (set-is n 0 test (omega (arith, set-fits n test)) (λ i l. has-none i ∙ sym (e i l)))
+
+pub ones-set : (n : ℕ) (test : ℕ → Bool) → ones (setBelow n test) ≡ countBelow n test
+ones-set n test = ones-passing n (setBelow n test) test (set-fits n test) (has-set n test)

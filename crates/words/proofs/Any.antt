@@ -1,16 +1,12 @@
 -- A search below a bound: what it says while it goes on, and where it has found.
 use Prim.Native.Nat.{ℕ, zero, suc, _+_, _≤_, _<_}
-use mathlib.Core.Path.{_≡_, refl, sym}
-use mathlib.Core.Bool.{Bool, true, false, _||_, true≢false}
+use mathlib.Core.Path.{_≡_, refl, sym, ap, _∙_}
+use mathlib.Core.Bool.{Bool, true, false, _||_, true≢false, or-true}
 use mathlib.Core.Logic.{⊎-elim}
 use native.Mathlib.Omega.{arith}
 use native.Mathlib.Numerals.{add-one}
 use native.Mathlib.Nat.{eq-or-lt-of-le}
 use Rattle.words.specs.Lists.{anyBelow}
-
-or-true : (a : Bool) → a || true ≡ true
-or-true true = refl
-or-true false = refl
 
 -- nothing is found below k, nor at k
 pub any-more : (test : ℕ → Bool) (k : ℕ) → anyBelow test k ≡ false → test k ≡ false → anyBelow test (k + 1) ≡ false
@@ -52,3 +48,13 @@ pub any-same : (test other : ℕ → Bool) (n : ℕ) → ((k : ℕ) → k < n �
 unfolding anyBelow
 any-same test other zero h = refl
 any-same test other (suc n) h = rw (h n (omega arith), any-same test other n (λ k l. h k (omega arith)))
+
+-- the first number apart
+pub any-first : (test : ℕ → Bool) (n : ℕ) → anyBelow test (suc n) ≡ (test 0 || anyBelow (λ k. test (suc k)) n)
+unfolding anyBelow
+any-first test zero = refl
+any-first test (suc n) = ap (λ (b : Bool). test (suc n) || b) (any-first test n) ∙ swap (test (suc n)) (test 0) (anyBelow (λ k. test (suc k)) n)
+  where
+    swap : (a b c : Bool) → (a || (b || c)) ≡ (b || (a || c))
+    swap true b c = sym (or-true b)
+    swap false b c = refl

@@ -1,7 +1,7 @@
 -- A list by a rule is the list whose entries are the rule's: looked up, compared, stored to; and the length of such lists in a row.
 use Prim.Native.Nat.{ℕ, zero, suc, _+_, _*_, _≤_, _<_}
 use mathlib.Core.Path.{_≡_, refl, sym, ap, _∙_}
-use mathlib.Core.List.{List, [], _∷_}
+use mathlib.Core.List.{List, [], _∷_, _++_, append-nil, append-assoc}
 use native.Mathlib.Omega.{arith}
 use native.Mathlib.Nat.{mul-zero, mul-suc}
 use native.Mathlib.Decide.{ℕ-discrete}
@@ -31,6 +31,14 @@ pub length-each : {A : Type 0} (n i w : ℕ) (rule : ℕ → List A) → ((k : �
 unfolding each
 length-each zero i w rule h = sym (mul-zero w)
 length-each (suc n) i w rule h = rw (length-append, h i, length-each n (i + 1) w rule h, mul-suc) (omega arith)
+
+-- the last list apart
+pub each-last : {A : Type 0} (n i : ℕ) (rule : ℕ → List A) → each (suc n) i rule ≡ each n i rule ++ rule (i + n)
+unfolding each
+each-last zero i rule = append-nil (rule i) ∙ ap rule (omega arith)
+each-last {A} (suc n) i rule =
+    let next : i + 1 + n ≡ i + suc n = omega arith in
+    ap (λ (l : List A). rule i ++ l) (each-last n (i + 1) rule) ∙ sym (append-assoc (rule i) (each n (i + 1) rule) (rule (i + 1 + n))) ∙ rw next
 
 pub length-each-most : {A : Type 0} (n i w : ℕ) (rule : ℕ → List A) → ((k : ℕ) → k < i + n → length (rule k) ≤ w) → length (each n i rule) ≤ w * n
 unfolding each

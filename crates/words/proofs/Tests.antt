@@ -21,6 +21,9 @@ pub and-says : {A B : Type 0} (p q : Bool) → (p ≡ true) ↔ A → (q ≡ tru
 and-says true q a b = (λ e. (a .0 refl, b .0 e), λ h. b .1 (h .1))
 and-says false q a b = (λ e. absurd (false≢true e), λ h. absurd (false≢true (a .1 (h .0))))
 
+pub and-both : (p q : Bool) → (p && q) ≡ true → (p ≡ true) × (q ≡ true)
+and-both p q = and-says p q (λ e. e, λ e. e) (λ e. e, λ e. e) .0
+
 -- a search that finds nothing
 pub none-says : (test : ℕ → Bool) (n : ℕ) (Found : ℕ → Type 0) → ((k : ℕ) → (test k ≡ true) ↔ Found k)
     → (not (anyBelow test n) ≡ true) ↔ ((k : ℕ) → k < n → Found k → ⊥)

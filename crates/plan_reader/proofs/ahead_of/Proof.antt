@@ -1,0 +1,52 @@
+-- The loop keeps that the entries before x are the definition's.
+use Prim.Native.Nat.{_-_, _≤_}
+use mathlib.Core.Path.{_≡_, _∙_}
+use native.Mathlib.Omega.{arith}
+use Rattle.plan_reader.proofs.AheadLaws.{aheadBelow, ahead-none, ahead-next, ahead-all}
+use Rattle.plan_reader.proofs.ahead_of.Statement.{statement}
+use Rattle.plan_reader.proofs.ahead_of.Tie as tie
+
+abbrev Inv-loop : tie.InvT-loop
+Inv-loop steps zone before ahead₀ x₀ ahead x = (x ≤ 128) × (ahead ≡ aheadBelow steps zone before x)
+
+abbrev μ-loop : tie.MeasureT-loop
+μ-loop steps zone before ahead₀ x₀ ahead x = 128 - x
+
+loop-holds : tie.Need-loop-holds Inv-loop μ-loop
+loop-holds c = (omega arith, ahead-none _ _ _)
+
+ahead-at-requires : tie.Need-ahead-at-requires Inv-loop μ-loop
+ahead-at-requires c κs = (omega arith, c .before .before .pre)
+
+mul-ahead : tie.Need-mul-ahead Inv-loop μ-loop
+mul-ahead c = omega arith
+
+array-write-ahead : tie.Need-array-write-ahead Inv-loop μ-loop
+array-write-ahead c = omega arith
+
+add-x : tie.Need-add-x Inv-loop μ-loop
+add-x c = omega arith
+
+loop-less : tie.Need-loop-less Inv-loop μ-loop
+loop-less c = omega arith
+
+loop-again : tie.Need-loop-again Inv-loop μ-loop
+loop-again c = (omega arith, ahead-next _ _ _ _ _ _ (c .before .loop-test .taken) (c .before .before .loop .inv .1) (c .ahead-at .ensures))
+
+returns : tie.Need-returns Inv-loop μ-loop
+returns c = c .before .loop .inv .1 ∙ ahead-all _ _ _ _ (omega arith)
+
+pub ahead-of-spec : {M : Type 1} → statement M
+ahead-of-spec =
+    tie.close
+    (tie.spec
+    Inv-loop
+    μ-loop
+    loop-holds
+    ahead-at-requires
+    mul-ahead
+    array-write-ahead
+    add-x
+    loop-less
+    loop-again
+    returns)

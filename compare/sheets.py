@@ -126,7 +126,8 @@ def written(fields):
 
 def a_number(rng, high):
     """A number up to high, where the ends are not rare."""
-    return rng.choice([0, 1, high - 1, high, rng.randint(0, high), rng.randint(0, high)])
+    end = rng.choice([0, 1, high - 1, high, None, None])
+    return rng.randint(0, high) if end is None else end
 
 
 def a_route(rng, zone_count, step_count):

@@ -6,3 +6,4 @@ pub mod Shows
 pub mod Readable
 pub mod Lists
 pub mod RoundTrip
+pub mod Further

@@ -95,10 +95,10 @@ module _ {orders : Orders} {n total : ℕ} where
           same = ap length f ∙ length-sets room at (listBytes orders z) ∙ s .same;
           ends = omega (arith, s .ends, length-turn (listBytes orders) n z h, list-length orders z);
           left =
-            s .left
-            ∙ ap (λ (m : ℕ). sets room at (each m z (listBytes orders))) (left-suc n z h)
-            ∙ sets-append room at (listBytes orders z) (each (n - (z + 1)) (z + 1) (listBytes orders))
-            ∙ ap₂ (λ (l : List ℕ) (x : ℕ). sets l x (each (n - (z + 1)) (z + 1) (listBytes orders))) (sym f) (ap (λ (x : ℕ). at + x) (list-length orders z) ∙ place);
+              s .left
+              ∙ ap (λ (m : ℕ). sets room at (each m z (listBytes orders))) (left-suc n z h)
+              ∙ sets-append room at (listBytes orders z) (each (n - (z + 1)) (z + 1) (listBytes orders))
+              ∙ ap₂ (λ (l : List ℕ) (x : ℕ). sets l x (each (n - (z + 1)) (z + 1) (listBytes orders))) (sym f) (ap (λ (x : ℕ). at + x) (list-length orders z) ∙ place);
         }
 
     pub storing-end : n ≤ z → room ≡ sets begin 4 (each n 0 (listBytes orders))

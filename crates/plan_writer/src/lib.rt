@@ -1,9 +1,13 @@
+use plan::sum_of;
+use plan_reader::read_plan;
+use words::Outcome;
+use words::refused;
 ghost use mathlib.Core.Path.{_≡_};
 ghost use Prim.Native.Nat.{_+_, _≤_, _<_};
 ghost use lib.ListN.{length, getD};
 ghost use lib.Seq.{sets};
 ghost use Rattle.plan.specs.Written.{listBytes, written};
-ghost use Rattle.plan_writer.specs.Writing.{lent, Writable, WritableList};
+ghost use Rattle.plan_writer.specs.Writing.{lent, Writable, WritableList, notWritten, writeAgain, roomAfter};
 
 // Zone z's list, written from a place on.
 fn write_list<'a>(
@@ -47,5 +51,44 @@ pub fn write_plan<'a>(
     while z < n {
         at = write_list(count, list, z, room, at);
         z += 1;
+    }
+}
+
+// What writing a plan answers: done with the plan's length, or a refusal with length 0.
+pub struct PlanWritten {
+    pub outcome: Outcome,
+    pub length: usize,
+}
+
+fn not_written(outcome: Outcome) -> PlanWritten
+    ensures { λ r. ⌜ r ≡ notWritten outcome ⌝ }
+{
+    PlanWritten { outcome, length: 0 }
+}
+
+// A plan read and written again into lent room: 1 to 21, then 28.
+pub fn write_again(s: &[u8], p: &[u8], room: &mut [u8]) -> PlanWritten
+    ensures answer { λ r. ⌜ r ≡ writeAgain (now (s .entry)) (now (p .entry)) (length (now (room .entry))) ⌝ }
+    ensures holds { λ r. ⌜ now (room .exit) ≡ roomAfter (now (s .entry)) (now (p .entry)) (now (room .entry)) ⌝ }
+{
+    let read = read_plan(s, p);
+    let outcome = read.outcome;
+    if outcome.number != 0 {
+        return not_written(outcome);
+    }
+    let sheet = read.sheet;
+    let n = sheet.zones;
+    let steps = sheet.steps;
+    let total = 4 + n + sum_of(&steps, 16);
+    if room.len() < total {
+        return not_written(refused(28, 0));
+    }
+    let orders = read.orders;
+    let count = orders.count;
+    let list = orders.list;
+    write_plan(n, total, &count, &list, room);
+    PlanWritten {
+        outcome,
+        length: total,
     }
 }

@@ -114,6 +114,7 @@ pub struct ListScan {
     pub lists: Lists,
 }
 
+// No list read yet.
 fn no_lists() -> Lists
     ensures { λ r. ⌜ r ≡ noLists ⌝ }
 {

@@ -46,8 +46,8 @@ module _ (sheet : Sheet) (valid : Valid sheet) (p : List ℕ) where
   abbrev pub answer : PlanRead
   answer = planDone sheet (ordersOf sheet (soFar (sheet .zones) (sheet .zones) 0 0))
 
-  abbrev first′ : List Check → PlanRead
-  first′ = first answer sheet p
+  abbrev tableAnswer : List Check → PlanRead
+  tableAnswer = first answer sheet p
 
   abbrev Late : ℕ → ℕ → ℕ → Type 0
   Late = LateIs answer sheet p
@@ -70,7 +70,7 @@ module _ (sheet : Sheet) (valid : Valid sheet) (p : List ℕ) where
 
   -- the checks of entry e, by the sets
   abbrev isFree : ℕ → ℕ → ℕ → Bool
-  isFree z e i = has (who sheet valid z) i && not (has (seen p z e) i)
+  isFree z e i = has (who sheet z) i && not (has (seen p z e) i)
 
   free-is : (z e : ℕ) → z < 24 → isFree z e (cartOf p z e) ≡ (visits sheet (cartOf p z e) z && not (isListed p z e (cartOf p z e)))
   free-is z e l = rw (who-has sheet valid z (cartOf p z e) l) (go (visits sheet (cartOf p z e) z) refl)
@@ -90,9 +90,9 @@ module _ (sheet : Sheet) (valid : Valid sheet) (p : List ℕ) where
 
   carts-agree : (z : ℕ) → z < 24 → countOf p z ≤ 16 → (n e late : ℕ) → e + n ≡ countOf p z → Late z e late
       → ((k : ℕ) → k < e → cartOf p z k < 16) → (go : Lists → Cursor → Scanned) (later : List Check)
-      → ((end : ℕ) → Late z (countOf p z) end → whole (go (soFar (z + 1) z (countOf p z) end) (record { at = cartAt p z (countOf p z) })) ≡ first′ later)
-      → whole (cartsFrom p (who sheet valid z) leads z n e (seen p z e) (soFar (z + 1) z e late) (record { at = cartAt p z e }) go)
-      ≡ first′ (each n e (cartChecks sheet p z) ++ later)
+      → ((end : ℕ) → Late z (countOf p z) end → whole (go (soFar (z + 1) z (countOf p z) end) (record { at = cartAt p z (countOf p z) })) ≡ tableAnswer later)
+      → whole (cartsFrom p (who sheet z) leads z n e (seen p z e) (soFar (z + 1) z e late) (record { at = cartAt p z e }) go)
+      ≡ tableAnswer (each n e (cartChecks sheet p z) ++ later)
   unfolding cartsFrom cartTaken each
   carts-agree z l m zero e late q h few go later k = let end : e ≡ countOf p z = omega arith in rw end (k late (rw end at h))
   carts-agree z l m (suc n) e late q h few go later k =
@@ -105,7 +105,7 @@ module _ (sheet : Sheet) (valid : Valid sheet) (p : List ℕ) where
     where
       then : Taken → PlanRead
       then r =
-          whole (onTaken r λ i next. cartsFrom p (who sheet valid z) leads z n (e + 1) (withCart (seen p z e) i) (putCart (soFar (z + 1) z e late) z e i (seen p z e) (firstLate late (cartAt p z e) (seen p z e) (getD leads i 0))) next go)
+          whole (onTaken r λ i next. cartsFrom p (who sheet z) leads z n (e + 1) (withCart (seen p z e) i) (putCart (soFar (z + 1) z e late) z e i (seen p z e) (firstLate late (cartAt p z e) (seen p z e) (getD leads i 0))) next go)
 
       more : cartOf p z e < 16 → (j : ℕ) → j < e + 1 → cartOf p z j < 16
       more below j r = elim (decLt j e) [ yes s ↦ few j s | no s ↦ let j-is : e ≡ j = omega arith in rw j-is at below ]
@@ -115,41 +115,41 @@ module _ (sheet : Sheet) (valid : Valid sheet) (p : List ℕ) where
   last = check 20 (countAt p (sheet .zones)) (eqb (countAt p (sheet .zones)) (length p)) ∷ each (sheet .zones) 0 (laneChecks sheet p)
 
   finish-agrees : (late : ℕ) → Late (sheet .zones) 0 late
-      → finish p sheet (soFar (sheet .zones) (sheet .zones) 0 late) (record { at = countAt p (sheet .zones) }) ≡ first′ last
+      → finish p sheet (soFar (sheet .zones) (sheet .zones) 0 late) (record { at = countAt p (sheet .zones) }) ≡ tableAnswer last
   unfolding finish each firstFailing
   finish-agrees late h =
       pick-checks (λ r. r) planRefused answer 20 (countAt p (sheet .zones)) (eqb (countAt p (sheet .zones)) (length p)) _ (each (sheet .zones) 0 (laneChecks sheet p))
-      (sym (h .says []) ∙ ap first′ (append-nil (each (sheet .zones) 0 (laneChecks sheet p))))
+      (sym (h .says []) ∙ ap tableAnswer (append-nil (each (sheet .zones) 0 (laneChecks sheet p))))
 
   lists-agree : (n z late : ℕ) → z + n ≡ sheet .zones → Late z 0 late
-      → whole (listsFrom p visitorsOf leads n z (soFar z z 0 late) (record { at = countAt p z })) ≡ first′ (each n z (listChecks sheet p) ++ last)
+      → whole (listsFrom p visitorsOf leads n z (soFar z z 0 late) (record { at = countAt p z })) ≡ tableAnswer (each n z (listChecks sheet p) ++ last)
   unfolding listsFrom countTaken each listChecks
   lists-agree zero z late q h = let end : z ≡ sheet .zones = omega arith in rw end (finish-agrees late (rw end at h))
   lists-agree (suc n) z late q h =
       let l : z < 24 = omega (arith, valid .zones-most) in
       let start : countAt p z + 1 ≡ cartAt p z 0 = omega arith in
       simp append-assoc
-      (rw (who-ones sheet valid z l)
+      (rw (who-ones sheet z l)
       (taking-checks then Refused answer 15 p 1 (countAt p z) 19 (λ k. eqb k (visitors sheet z)) Got _ λ _ t.
       let few : countOf p z ≤ 16 = omega (arith, eqb-true (countOf p z) (visitors sheet z) t, visitors-most sheet z) in
       rw (table-put 24 z (countOf p) l, start)
-      (ap (λ (x : ℕ). whole (cartsFrom p (who sheet valid z) leads z (countOf p z) 0 x (soFar (z + 1) z 0 late) (record { at = cartAt p z 0 }) (listsFrom p visitorsOf leads n (z + 1)))) (seen-none p z)
+      (ap (λ (x : ℕ). whole (cartsFrom p (who sheet z) leads z (countOf p z) 0 x (soFar (z + 1) z 0 late) (record { at = cartAt p z 0 }) (listsFrom p visitorsOf leads n (z + 1)))) (seen-none p z)
       ∙ carts-agree z l few (countOf p z) 0 late (omega arith) h (λ k m. absurd (omega arith)) (listsFrom p visitorsOf leads n (z + 1)) (each n (z + 1) (listChecks sheet p) ++ last) λ end g.
       next end (lists-agree n (z + 1) end (omega arith) (late-zone answer sheet p z (countOf p z) end refl g)))))
     where
       then : Taken → PlanRead
       then r =
-          whole (onTaken r λ k c. cartsFrom p (who sheet valid z) leads z k 0 0 (putCount (soFar z z 0 late) z k) c (listsFrom p visitorsOf leads n (z + 1)))
+          whole (onTaken r λ k c. cartsFrom p (who sheet z) leads z k 0 0 (putCount (soFar z z 0 late) z k) c (listsFrom p visitorsOf leads n (z + 1)))
 
       next : (end : ℕ)
-          → whole (listsFrom p visitorsOf leads n (z + 1) (soFar (z + 1) (z + 1) 0 end) (record { at = countAt p (z + 1) })) ≡ first′ (each n (z + 1) (listChecks sheet p) ++ last)
-          → whole (listsFrom p visitorsOf leads n (z + 1) (soFar (z + 1) z (countOf p z) end) (record { at = cartAt p z (countOf p z) })) ≡ first′ (each n (z + 1) (listChecks sheet p) ++ last)
+          → whole (listsFrom p visitorsOf leads n (z + 1) (soFar (z + 1) (z + 1) 0 end) (record { at = countAt p (z + 1) })) ≡ tableAnswer (each n (z + 1) (listChecks sheet p) ++ last)
+          → whole (listsFrom p visitorsOf leads n (z + 1) (soFar (z + 1) z (countOf p z) end) (record { at = cartAt p z (countOf p z) })) ≡ tableAnswer (each n (z + 1) (listChecks sheet p) ++ last)
       next end g = rw (count-next z, rows-next (countOf p) (listRule p) z (countOf p z) refl, rows-next (countOf p) (beforeRule p) z (countOf p z) refl) g
 
   nothing-yet : noLists ≡ soFar 0 0 0 0
   nothing-yet = rw (← table-none 24 (countOf p), ← listed-none p, ← before-none p)
 
-  pub scan-agrees : scan p sheet ≡ first′ (planChecks sheet p)
+  pub scan-agrees : scan p sheet ≡ tableAnswer (planChecks sheet p)
   unfolding scan planChecks fromLists countAt
   scan-agrees =
       simp append-assoc

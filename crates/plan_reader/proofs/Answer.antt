@@ -8,7 +8,7 @@ use lib.Dec.{ltb, eqb}
 use lib.ListN.{getD}
 use borrow.Author.Tests.{ltb-true, lt-ltb, le-ltb, eqb-true, eq-eqb}
 use Rattle.words.specs.Lists.{pick}
-use Rattle.words.specs.Checks.{AllPass}
+use Rattle.words.specs.Checks.{AllPass, firstFailing}
 use Rattle.words.proofs.Any.{any-some, any-found}
 use Rattle.words.proofs.Entries.{at-entry, same-entries}
 use Rattle.words.proofs.First.{first-pass, first-answers, fails-refuses, fails-append}
@@ -87,6 +87,11 @@ module _ (sheet : Sheet) (valid : Valid sheet) (p : List ℕ) where
   unfolding saidOrders
   answer-is h = rw (list-is, ahead-is (passing sheet p h))
 
+  scan-is : scan p sheet ≡ firstFailing planRefused (planDone sheet (saidOrders sheet p)) (planChecks sheet p)
+  scan-is =
+      scan-agrees sheet valid p
+      ∙ first-answers planRefused (answer sheet valid p) (planDone sheet (saidOrders sheet p)) (planChecks sheet p) answer-is
+
 module _ (s p : List ℕ) where
   pub read-refused : (readSheet s .outcome .number ≡ 0 → ⊥) → readPlan s p ≡ planRefused (readSheet s .outcome)
   unfolding readPlan
@@ -100,8 +105,6 @@ module _ (s p : List ℕ) where
   read-accepted e =
       let pass = accepted-passes s e in
       let sheet-is : readSheet s .sheet ≡ sheetOf s = ap (λ (r : SheetRead). r .sheet) (passes-accepted s pass) in
-      let valid : Valid (sheetOf s) = rw sheet-is at (accepted-valid s e) in
-      ap (scan p) sheet-is
-      ∙ scan-agrees (sheetOf s) valid p
-      ∙ first-answers planRefused _ _ (planChecks (sheetOf s) p) (answer-is (sheetOf s) valid p)
-      ∙ sym (first-pass planRefused _ (sheetChecks s) (planChecks (sheetOf s) p) pass)
+      rw sheet-is
+      (scan-is (sheetOf s) (rw sheet-is at (accepted-valid s e)) p
+      ∙ sym (first-pass planRefused _ (sheetChecks s) (planChecks (sheetOf s) p) pass))

@@ -34,8 +34,7 @@ same-tests false false f g = refl
 eqb-swap : (a b : ℕ) → eqb a b ≡ eqb b a
 eqb-swap a b = same-tests (eqb a b) (eqb b a) (λ t. eq-eqb b a (sym (eqb-true a b t))) (λ t. eq-eqb a b (sym (eqb-true b a t)))
 
--- ---- who is ahead in a list by a rule: the entries before the first that is i
-
+-- who is ahead of i in a list by a rule: the entries before the first that is i
 ahead-is : (rule : ℕ → ℕ) (n s k i d : ℕ) → k < n → rule (s + k) ≡ i → ((e : ℕ) → e < k → rule (s + e) ≡ i → ⊥)
     → isAhead (entries n s rule) i d ≡ anyBelow (λ e. eqb (rule (s + e)) d) k
 unfolding isAhead entries anyBelow
@@ -86,23 +85,25 @@ module _ (p : List ℕ) (z : ℕ) where
       ahead-is (cartOf p z) (countOf p z) 0 e (cartOf p z e) d l (ap (cartOf p z) (omega arith)) (λ k m q. any-none _ e n k m (eq-eqb _ _ (ap (cartOf p z) (omega arith) ∙ q)))
       ∙ any-same _ _ e (λ k _. ap (λ (x : ℕ). eqb (cartOf p z x) d) (omega arith))
 
+-- ---- who visits, and who may be ahead
+
+abbrev pub who : Sheet → ℕ → ℕ
+who sheet z = getD (whoVisits (sheet .steps) (sheet .zone)) z 0
+
+who-is : (sheet : Sheet) (z : ℕ) → z < 24 → who sheet z ≡ setBelow 16 (λ i. visits sheet i z)
+unfolding whoVisits
+who-is sheet z l = at-entry 24 (λ x. setBelow 16 (λ i. visits sheet i x)) z l
+
+pub who-ones : (sheet : Sheet) (z : ℕ) → z < 24 → ones (who sheet z) ≡ visitors sheet z
+who-ones sheet z l = ap ones (who-is sheet z l) ∙ ones-set 16 (λ i. visits sheet i z)
+
 module _ (sheet : Sheet) (valid : Valid sheet) where
-  abbrev pub who : ℕ → ℕ
-  who z = getD (whoVisits (sheet .steps) (sheet .zone)) z 0
-
-  who-is : (z : ℕ) → z < 24 → who z ≡ setBelow 16 (λ i. visits sheet i z)
-  unfolding whoVisits
-  who-is z l = at-entry 24 (λ x. setBelow 16 (λ i. visits sheet i x)) z l
-
-  pub who-ones : (z : ℕ) → z < 24 → ones (who z) ≡ visitors sheet z
-  who-ones z l = ap ones (who-is z l) ∙ ones-set 16 (λ i. visits sheet i z)
-
   pub visits-below : (z i : ℕ) → visits sheet i z ≡ true → i < 16
   visits-below z i t = omega (arith, valid .carts-most, visitor-cart sheet valid i z t)
 
   -- past 15 no cart visits
-  pub who-has : (z i : ℕ) → z < 24 → has (who z) i ≡ visits sheet i z
-  who-has z i l = ap (λ (x : ℕ). has x i) (who-is z l) ∙ go (decLt i 16)
+  pub who-has : (z i : ℕ) → z < 24 → has (who sheet z) i ≡ visits sheet i z
+  who-has z i l = ap (λ (x : ℕ). has x i) (who-is sheet z l) ∙ go (decLt i 16)
     where
       go : Dec (i < 16) → has (setBelow 16 (λ k. visits sheet k z)) i ≡ visits sheet i z
       go (yes m) = has-set 16 (λ k. visits sheet k z) i m
@@ -121,7 +122,7 @@ lead-has sheet i d l m =
 -- a cart is seen that may not be ahead, where a higher-numbered one of the lane is
 pub late-is : (sheet : Sheet) (p : List ℕ) (z e : ℕ) → ((k : ℕ) → k < e → cartOf p z k < 16) → cartOf p z e < 16
     → anyBelow (λ d. has (seen p z e) d && not (has (lead sheet (cartOf p z e)) d)) 16 ≡ hasHigherAhead sheet p z e
-late-is sheet p z e few l = any-same _ held 16 (λ d m. test d m) ∙ same-tests _ _ to from
+late-is sheet p z e few l = any-same _ held 16 test ∙ same-tests _ _ to from
   where
     isHigher : ℕ → Bool
     isHigher d = ltb (cartOf p z e) d && eqb (lane sheet d) (lane sheet (cartOf p z e))

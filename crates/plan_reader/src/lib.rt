@@ -47,6 +47,7 @@ fn ahead_of(steps: &[u8; 16], zone: &[u8; 128], before: &[u16; 384]) -> [u16; 12
     ahead
 }
 
+// A refusal: every other part of the answer is 0.
 fn plan_refused(outcome: Outcome) -> PlanRead
     ensures { λ r. ⌜ r ≡ planRefused outcome ⌝ }
 {

@@ -24,7 +24,8 @@ use Rattle.plan.specs.declared.PlanRead.{PlanRead}
 use Rattle.plan.proofs.Passing.{read-passes, passes-read}
 use Rattle.plan.proofs.Further.{further-refused, further-read}
 use Rattle.plan.proofs.Shows.{ShowsList}
-use Rattle.plan.proofs.Readable.{readable-shows}
+use Rattle.plan.proofs.Visitors.{visitors-most}
+use Rattle.plan.proofs.Readable.{readable-sheet, readable-valid, readable-shows}
 use Rattle.zone_list.specs.Finding.{notFound, findList, FoundIs}
 use Rattle.zone_list.specs.declared.ListFound.{ListFound}
 
@@ -39,9 +40,9 @@ unfolding value
 byte-value s x = omega (arith, ap (λ (y : ℕ). getD s y 0) (add-zero x))
 
 module _ (s p : List ℕ) (zone : ℕ) where
-  pub list-refused : (readPlan s p .outcome .number ≡ 0 → ⊥) → FoundIs s p zone (notFound (readPlan s p .outcome))
+  refused-is : (readPlan s p .outcome .number ≡ 0 → ⊥) → FoundIs s p zone (notFound (readPlan s p .outcome))
   unfolding findList
-  list-refused n = record { is = sym (further-refused _ _ s p _ n); fits = omega arith }
+  refused-is n = record { is = sym (further-refused _ _ s p _ n); fits = omega arith }
 
   module _ (e : readPlan s p .outcome .number ≡ 0) where
     abbrev sheet : Sheet
@@ -62,15 +63,15 @@ module _ (s p : List ℕ) (zone : ℕ) where
     at : zone < sheet .zones → countAt p zone ≡ 4 + zone + sumBelow zone (count orders)
     at l = count-at p zone (count orders) (λ z h. shown z (omega arith) .count-is .keeps)
 
-    pub list-unknown : sheet .zones ≤ zone → FoundIs s p zone (notFound (refused 27 0))
+    unknown-is : sheet .zones ≤ zone → FoundIs s p zone (notFound (refused 27 0))
     unfolding findList firstFailing
-    list-unknown l =
+    unknown-is l =
         let unknown : ltb zone (sheetOf s .zones) ≡ false = le-ltb _ _ (rw same-zones at l) in
         record { is = sym (further-read _ _ s p _ e ∙ rw unknown); fits = omega arith }
 
-    pub list-found : zone < sheet .zones → (sum : ℕ) → sum ≡ sumBelow zone (count orders) → FoundIs s p zone (record { outcome = readPlan s p .outcome; start = 5 + zone + sum; length = count orders zone })
+    found-is : zone < sheet .zones → (sum : ℕ) → sum ≡ sumBelow zone (count orders) → FoundIs s p zone (record { outcome = readPlan s p .outcome; start = 5 + zone + sum; length = count orders zone })
     unfolding findList firstFailing
-    list-found l sum q =
+    found-is l sum q =
         let known : ltb zone (sheetOf s .zones) ≡ true = lt-ltb _ _ (rw same-zones at l) in
         record { is = found ∙ sym (further-read _ _ s p _ e ∙ rw known); fits = inside (decLt 0 (count orders zone)) }
       where
@@ -87,7 +88,7 @@ module _ (s p : List ℕ) (zone : ℕ) where
     -- the part is the zone's order
     pub part-list : zone < sheet .zones → take (findList s p zone .length) (drop (findList s p zone .start) p) ≡ passingList orders zone
     part-list l =
-        let f = list-found l _ refl in
+        let f = found-is l _ refl in
         ap (λ (r : ListFound). take (r .length) (drop (r .start) p)) (sym (f .is))
         ∙ entries-is (take (count orders zone) (drop (5 + zone + sumBelow zone (count orders)) p)) (count orders zone) (listed orders zone) sized same
       where
@@ -95,7 +96,7 @@ module _ (s p : List ℕ) (zone : ℕ) where
         start = 5 + zone + sumBelow zone (count orders)
 
         fits : start + count orders zone ≤ length p
-        fits = list-found l _ refl .fits
+        fits = found-is l _ refl .fits
 
         sized : length (take (count orders zone) (drop start p)) ≡ count orders zone
         sized = length-take-le (count orders zone) (drop start p) (rw (length-drop start p) (omega (arith, fits)))
@@ -105,3 +106,23 @@ module _ (s p : List ℕ) (zone : ℕ) where
 
         same : (k : ℕ) → k < count orders zone → getD (take (count orders zone) (drop start p)) k 0 ≡ listed orders zone k
         same k h = getD-take (count orders zone) (drop start p) k 0 h ∙ getD-drop start p k 0 ∙ ap (λ (x : ℕ). getD p x 0) (place k) ∙ byte-value p (cartAt p zone k) ∙ shown zone l .cart-is k h .keeps
+
+-- the same of whatever reading the plan answered
+module _ (s p : List ℕ) (zone : ℕ) (read : PlanRead) (is : read ≡ readPlan s p) where
+  pub list-refused : (read .outcome .number ≡ 0 → ⊥) → FoundIs s p zone (notFound (read .outcome))
+  list-refused = rw is (refused-is s p zone)
+
+  pub list-unknown : read .outcome .number ≡ 0 → read .sheet .zones ≤ zone → FoundIs s p zone (notFound (refused 27 0))
+  list-unknown = rw is (unknown-is s p zone)
+
+  pub list-zones : read .outcome .number ≡ 0 → read .sheet .zones ≤ 24
+  list-zones = rw is (λ e. readable-sheet s p e .zones-most)
+
+  pub list-counts : read .outcome .number ≡ 0 → length (read .orders .count) ≡ 24
+  list-counts = rw is (λ e. readable-valid s p e .shaped .count-24)
+
+  pub list-few : read .outcome .number ≡ 0 → zone < read .sheet .zones → count (read .orders) zone ≤ 16
+  list-few = rw is (λ e l. omega (arith, readable-valid s p e .list zone l .all-visitors, visitors-most (readPlan s p .sheet) zone))
+
+  pub list-found : read .outcome .number ≡ 0 → zone < read .sheet .zones → (sum : ℕ) → sum ≡ sumBelow zone (count (read .orders)) → FoundIs s p zone (record { outcome = read .outcome; start = 5 + zone + sum; length = count (read .orders) zone })
+  list-found = rw is (found-is s p zone)

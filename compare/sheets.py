@@ -1,18 +1,8 @@
-#!/usr/bin/env python3
-"""Reads crossing sheets as document 01 says, written from that document alone, and compares our proved programs with it.
+"""Reads crossing sheets as document 01 says, written from that document alone, and makes random ones.
 
-sheets.py show FILE      prints what the program sheet_main must print for the sheet in FILE
-sheets.py lines FILE     prints what the program vectors must print for FILE, a text with one sheet a line
-sheets.py check VECTORS  compares the stored output of both, then runs the program VECTORS on random sheets
+`shown` is what our programs print of a sheet; programs.py compares them with it.
 """
-import os
 import random
-import re
-import subprocess
-import sys
-import tempfile
-
-ROOT = os.path.dirname(os.path.dirname(os.path.abspath(__file__)))
 
 
 class Refused(Exception):
@@ -20,16 +10,16 @@ class Refused(Exception):
 
 
 class Fields:
-    """The sheet's fields in byte order. `place` is the first byte of the field taken last."""
+    """The fields of a sheet or a plan in byte order. `place` is the first byte of the field taken last."""
 
-    def __init__(self, sheet):
-        self.sheet, self.place, self.next = sheet, 0, 0
+    def __init__(self, lent, number_of_cut):
+        self.lent, self.number_of_cut, self.place, self.next = lent, number_of_cut, 0, 0
 
     def take(self, width):
         self.place, self.next = self.next, self.next + width
-        if len(self.sheet) < self.next:
-            raise Refused(1, self.place)
-        return int.from_bytes(self.sheet[self.place:self.next], 'big')
+        if len(self.lent) < self.next:
+            raise Refused(self.number_of_cut, self.place)
+        return int.from_bytes(self.lent[self.place:self.next], 'big')
 
     def take_within(self, width, low, high, number):
         value = self.take(width)
@@ -72,7 +62,7 @@ def check_arrivals(carts):
 
 
 def read_all(sheet):
-    fields = Fields(sheet)
+    fields = Fields(sheet, 1)
     fields.take_within(1, 1, 1, 2)
     fields.take_within(2, len(sheet), len(sheet), 3)
     zone_count = fields.take_within(1, 1, 24, 4)
@@ -110,21 +100,6 @@ def shown(sheet):
     return lines
 
 
-def sheets_of(text):
-    """Line number, sheet and the line above, for each sheet of a text with one sheet a line in hexadecimal."""
-    above = ''
-    for number, line in enumerate(text.split('\n'), 1):
-        digits = line.split('#')[0].strip()
-        if digits:
-            yield number, b'' if digits == '-' else bytes.fromhex(digits), above
-        above = line
-
-
-def expected(text):
-    """What the program vectors must print for a text, as a list of lines."""
-    return [line for number, sheet, _ in sheets_of(text) for line in ['line %d:' % number] + shown(sheet)]
-
-
 # Sheets to write: bytes from fields, so that one field or one byte can be spoilt.
 
 def fields_of(gaps, carts):
@@ -151,7 +126,8 @@ def written(fields):
 
 def a_number(rng, high):
     """A number up to high, where the ends are not rare."""
-    return rng.choice([0, 1, high - 1, high, rng.randint(0, high), rng.randint(0, high)])
+    end = rng.choice([0, 1, high - 1, high, None, None])
+    return rng.randint(0, high) if end is None else end
 
 
 def a_route(rng, zone_count, step_count):
@@ -256,86 +232,3 @@ def random_sheets():
         for _ in range(count):
             yield make(rng, *a_sheet(rng))
     yield from long_sheets()
-
-
-# Comparing.
-
-def read_text(path):
-    with open(path) as file:
-        return file.read()
-
-
-def read_bytes(path):
-    with open(path, 'rb') as file:
-        return file.read()
-
-
-def first_difference(wanted, text, what):
-    """Ends the program where a text does not have the lines that document 01 wants."""
-    line = ''
-    for want, have in zip(wanted + ['', 'no more'], text.split('\n') + ['no more']):
-        line = want if want.startswith('line ') else line
-        if want != have:
-            sys.exit('%s: %s expected %r, got %r' % (what, line, want, have))
-
-
-def check_comment(number, sheet, above):
-    """The comment above a stored sheet says what was expected of it by hand."""
-    said = re.match(r'# (?:done|(\d+) at (\d+)): ', above)
-    if not said or [int(said[1] or 0), int(said[2] or 0)] != list(read(sheet)[:2]):
-        sys.exit('sheets.txt, line %d: document 01 gives %r, the line above is %r' % (number, shown(sheet)[0], above))
-
-
-def check_stored():
-    os.chdir(ROOT)
-    first_difference(shown(read_bytes('examples/S.sheet')), read_text('crates/sheet_main/stdout'), 'crates/sheet_main/stdout')
-    if read_bytes('examples/S.sheet') != read_bytes('crates/sheet_main/stdin'):
-        sys.exit('crates/sheet_main/stdin is not examples/S.sheet')
-    text = read_text('crates/vectors/data/sheets.txt')
-    for number, sheet, above in sheets_of(text):
-        check_comment(number, sheet, above)
-    first_difference(expected(text), read_text('crates/vectors/stdout'), 'crates/vectors/stdout')
-    print('stored: %d sheets as expected' % len(list(sheets_of(text))))
-
-
-def run(program, sheets):
-    """What the program vectors prints for these sheets, one a line."""
-    with tempfile.TemporaryDirectory() as room:
-        path = os.path.join(room, 'sheets.txt')
-        with open(path, 'w') as file:
-            file.writelines((sheet.hex() or '-') + '\n' for sheet in sheets)
-        with open(os.path.join(room, 'stdout'), 'w+') as out:
-            subprocess.run([program, path], stdout=out, check=True)
-            out.seek(0)
-            return out.read()
-
-
-def check_random(program):
-    sheets = list(random_sheets())
-    wanted = []
-    for number, sheet in enumerate(sheets, 1):
-        wanted += ['line %d:' % number] + shown(sheet)
-    first_difference(wanted, run(program, sheets), program)
-    print('random: %d sheets, %d lines as expected' % (len(sheets), len(wanted)))
-    seen = [read(sheet)[0] for sheet in sheets]
-    for number in range(15):
-        print('number %2d: %5d' % (number, seen.count(number)))
-        if number not in seen:
-            sys.exit('number %d was never seen' % number)
-
-
-def main(words):
-    if words[:1] == ['show'] and len(words) == 2:
-        print('\n'.join(shown(read_bytes(words[1]))))
-    elif words[:1] == ['lines'] and len(words) == 2:
-        print('\n'.join(expected(read_text(words[1]))))
-    elif words[:1] == ['check'] and len(words) == 2:
-        program = os.path.abspath(words[1])
-        check_stored()
-        check_random(program)
-    else:
-        sys.exit(__doc__)
-
-
-if __name__ == '__main__':
-    main(sys.argv[1:])

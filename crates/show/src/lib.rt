@@ -11,19 +11,19 @@ fn least(a: usize, b: usize) -> usize
     if a < b { a } else { b }
 }
 
-fn put(name: &[u8], n: u64) {
+// A number after its name.
+pub fn put(name: &[u8], n: u64) {
     io::write_all(STDOUT_FILENO, name);
     io::print_decimal(STDOUT_FILENO, n);
 }
 
-fn end_line() {
+pub fn end_line() {
     io::write_all(STDOUT_FILENO, b"\n");
 }
 
-fn show_refusal(outcome: Outcome) {
+pub fn put_refusal(outcome: Outcome) {
     put(b"refused ", outcome.number as u64);
     put(b" at ", outcome.place as u64);
-    end_line();
 }
 
 fn show_counts(zones: usize, carts: usize) {
@@ -94,7 +94,8 @@ pub fn show_sheet(s: &[u8]) {
     let read = reader::read_sheet(s);
     let outcome = read.outcome;
     if outcome.number != 0 {
-        show_refusal(outcome);
+        put_refusal(outcome);
+        end_line();
         return;
     }
     let sheet = read.sheet;

@@ -1,4 +1,4 @@
--- `vectors::show_file` is safe and ends. Both buffers keep their length; the measure is the number of turns left.
+-- `vectors::show_file` is safe and ends. The buffers keep their length; the measure is the number of turns left.
 use mathlib.Core.Path.{_≡_}
 use lib.ListN.{length}
 use borrow.Author.Needs.{needs}
@@ -6,16 +6,19 @@ use Rattle.vectors.proofs.show_file.Statement.{statement}
 use Rattle.vectors.proofs.show_file.Tie as tie
 
 abbrev Inv-loop : tie.InvT-loop
-Inv-loop fd text₀ sheet₀ line₀ turns₀ text sheet line turns = (65536 ≡ length text) × (65536 ≡ length sheet)
+Inv-loop fd text₀ sheet₀ plan₀ line₀ turns₀ text sheet plan line turns = (65536 ≡ length text) × (65536 ≡ length sheet) × (65536 ≡ length plan)
 
 abbrev μ-loop : tie.MeasureT-loop
-μ-loop fd text₀ sheet₀ line₀ turns₀ text sheet line turns = turns
+μ-loop fd text₀ sheet₀ plan₀ line₀ turns₀ text sheet plan line turns = turns
 
 large-buffer-requires : tie.Need-large-buffer-requires Inv-loop μ-loop
 large-buffer-requires c κs = search needs
 
 large-buffer-requires-2 : tie.Need-large-buffer-requires-2 Inv-loop μ-loop
 large-buffer-requires-2 c κs = search needs
+
+large-buffer-requires-3 : tie.Need-large-buffer-requires-3 Inv-loop μ-loop
+large-buffer-requires-3 c κs = search needs
 
 blank-line-requires : tie.Need-blank-line-requires Inv-loop μ-loop
 blank-line-requires c κs = search needs
@@ -38,6 +41,9 @@ slice-aggregate-take-text c = search needs
 slice-aggregate-take-text-2 : tie.Need-slice-aggregate-take-text-2 Inv-loop μ-loop
 slice-aggregate-take-text-2 c = search needs
 
+slice-aggregate-take-text-3 : tie.Need-slice-aggregate-take-text-3 Inv-loop μ-loop
+slice-aggregate-take-text-3 c = search needs
+
 take-text-requires : tie.Need-take-text-requires Inv-loop μ-loop
 take-text-requires c κs = search needs
 
@@ -53,6 +59,9 @@ loop-again c = search needs
 slice-aggregate-show-line : tie.Need-slice-aggregate-show-line Inv-loop μ-loop
 slice-aggregate-show-line c = search needs
 
+slice-aggregate-show-line-2 : tie.Need-slice-aggregate-show-line-2 Inv-loop μ-loop
+slice-aggregate-show-line-2 c = search needs
+
 show-line-requires : tie.Need-show-line-requires Inv-loop μ-loop
 show-line-requires c κs = search needs
 
@@ -67,6 +76,7 @@ show-file-spec =
     μ-loop
     large-buffer-requires
     large-buffer-requires-2
+    large-buffer-requires-3
     blank-line-requires
     loop-holds
     slice-aggregate-read-full
@@ -74,10 +84,12 @@ show-file-spec =
     array-share-prefix-text
     slice-aggregate-take-text
     slice-aggregate-take-text-2
+    slice-aggregate-take-text-3
     take-text-requires
     sub-turns
     loop-less
     loop-again
     slice-aggregate-show-line
+    slice-aggregate-show-line-2
     show-line-requires
     returns)

@@ -1,4 +1,4 @@
--- `vectors::take_text` is safe and ends. The sheet keeps its length; the measure is what is left of the text.
+-- `vectors::take_text` is safe and ends. Both buffers keep their length; the measure is what is left of the text.
 use Prim.Native.Nat.{_-_}
 use mathlib.Core.Path.{_≡_}
 use lib.ListN.{length}
@@ -7,10 +7,10 @@ use Rattle.vectors.proofs.take_text.Statement.{statement}
 use Rattle.vectors.proofs.take_text.Tie as tie
 
 abbrev Inv-loop : tie.InvT-loop
-Inv-loop text sheet₀ taken₀ i₀ sheet taken i = length sheet ≡ length sheet₀
+Inv-loop text sheet₀ plan₀ taken₀ i₀ sheet plan taken i = (length sheet ≡ length sheet₀) × (length plan ≡ length plan₀)
 
 abbrev μ-loop : tie.MeasureT-loop
-μ-loop text sheet₀ taken₀ i₀ sheet taken i = length text - i
+μ-loop text sheet₀ plan₀ taken₀ i₀ sheet plan taken i = length text - i
 
 loop-holds : tie.Need-loop-holds Inv-loop μ-loop
 loop-holds c = search needs
@@ -33,6 +33,9 @@ loop-again c = search needs
 same-length : tie.Need-same-length Inv-loop μ-loop
 same-length c = search needs
 
+same-length-2 : tie.Need-same-length-2 Inv-loop μ-loop
+same-length-2 c = search needs
+
 returns : tie.Need-returns Inv-loop μ-loop
 returns c = search needs
 
@@ -49,4 +52,5 @@ take-text-spec =
     loop-less
     loop-again
     same-length
+    same-length-2
     returns)

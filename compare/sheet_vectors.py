@@ -1,9 +1,9 @@
 #!/usr/bin/env python3
 """Prints crates/vectors/data/sheets.txt: sheets at the edges of document 01's ranges, each under what is given and why.
 
-vectors.py > crates/vectors/data/sheets.txt
+sheet_vectors.py > crates/vectors/data/sheets.txt
 
-The numbers and places are written here by hand from document 01; sheets.py checks them by reading the sheets.
+The numbers and places are written here by hand from document 01; programs.py checks them by reading the sheets.
 """
 
 GAP = '0000 0000'
@@ -292,7 +292,7 @@ def orders():
 
 def main():
     print('# Crossing sheets at the edges of document 01\'s ranges, one a line. Above each: what is given, and why.')
-    print('# Written by compare/vectors.py.')
+    print('# Written by compare/sheet_vectors.py.')
     for part in [whole_sheets, cuts, versions, lengths, zone_counts, gap_ranges, cart_counts, lanes, arrivals, step_counts,
                  zone_numbers, repeats, step_times, bytes_after, arrival_orders, orders]:
         part()

@@ -1,0 +1,159 @@
+#!/usr/bin/env python3
+"""Compares our proved programs with sheets.py and plans.py, which were written from document 01 alone.
+
+programs.py sheet FILE     prints what the program sheet_main must print for the sheet in FILE
+programs.py lines FILE..   prints what the program vectors must print for these texts, with a sheet or a sheet and a plan a line
+programs.py check VECTORS  compares the stored output of both, then runs the program VECTORS on random sheets and plans
+"""
+import os
+import re
+import subprocess
+import sys
+import tempfile
+
+import plans
+import sheets
+
+ROOT = os.path.dirname(os.path.dirname(os.path.abspath(__file__)))
+DATA = ['crates/vectors/data/sheets.txt', 'crates/vectors/data/plans.txt']
+
+
+def read_text(path):
+    with open(path) as file:
+        return file.read()
+
+
+def read_bytes(path):
+    with open(path, 'rb') as file:
+        return file.read()
+
+
+# A case is a sheet alone, or a sheet and a plan for it. A line of a text holds one in hexadecimal.
+
+def shown(case):
+    return sheets.shown(*case) if len(case) == 1 else plans.shown(*case)
+
+
+def line_of(case):
+    return ' | '.join(lent.hex() or '-' for lent in case)
+
+
+def bytes_of(digits):
+    return b'' if digits.strip() == '-' else bytes.fromhex(digits)
+
+
+def cases_of(text):
+    """Line number and case, for each line that holds one."""
+    for number, line in enumerate(text.split('\n'), 1):
+        digits = line.split('#')[0].strip()
+        if digits:
+            yield number, [bytes_of(lent) for lent in digits.split('|')]
+
+
+def blocks_of(cases):
+    """What the program vectors must print for each case, under its line number."""
+    return ['line %d:\n%s\n' % (number, '\n'.join(shown(case))) for number, case in cases]
+
+
+def output_of(files):
+    """What it must print for files with these blocks."""
+    return ''.join('file %d:\n%s' % (number, ''.join(blocks)) for number, blocks in enumerate(files, 1))
+
+
+def output_of_texts(paths):
+    return output_of(blocks_of(cases_of(read_text(path))) for path in paths)
+
+
+# Comparing.
+
+def compare(wanted, text, what, files=()):
+    """Ends the program where a text is not the one wanted, with the case it is in if the files' cases are given."""
+    if wanted == text:
+        return
+    at = {'file': 0, 'line': 0}
+    for want, have in zip(wanted.split('\n') + ['no more'], text.split('\n') + ['no more']):
+        if want != have:
+            break
+        heading = re.fullmatch(r'(file|line) (\d+):', want)
+        if heading:
+            at[heading[1]] = int(heading[2])
+    case = line_of(files[at['file'] - 1][at['line'] - 1]) if files else ''
+    sys.exit('%s: file %d line %d: expected %r, got %r\n%s' % (what, at['file'], at['line'], want, have, case))
+
+
+def given(case):
+    """What a case gives: done, or the number and the place."""
+    first = shown(case)[0]
+    return 'done' if first.startswith('ok ') else first.removeprefix('refused ')
+
+
+def check_comments(path):
+    """The comment above a stored case says what was expected of it by hand."""
+    text = read_text(path)
+    lines = text.split('\n')
+    cases = list(cases_of(text))
+    for number, case in cases:
+        above = lines[number - 2]
+        if not above.startswith('# %s: ' % given(case)):
+            sys.exit('%s, line %d: document 01 gives %s, the line above is %r' % (path, number, given(case), above))
+    print('%s: %d cases as expected by hand' % (path, len(cases)))
+
+
+def check_stored():
+    sheet = read_bytes('examples/S.sheet')
+    if sheet != read_bytes('crates/sheet_main/stdin'):
+        sys.exit('crates/sheet_main/stdin is not examples/S.sheet')
+    compare('\n'.join(sheets.shown(sheet)) + '\n', read_text('crates/sheet_main/stdout'), 'crates/sheet_main/stdout')
+    for path in DATA:
+        check_comments(path)
+    compare(output_of_texts(DATA), read_text('crates/vectors/stdout'), 'crates/vectors/stdout')
+
+
+def run(program, files):
+    """What the program vectors prints for files with these cases, one a line."""
+    with tempfile.TemporaryDirectory() as room:
+        paths = [os.path.join(room, '%d.txt' % number) for number in range(len(files))]
+        for path, cases in zip(paths, files):
+            with open(path, 'w') as file:
+                file.writelines(line_of(case) + '\n' for case in cases)
+        with open(os.path.join(room, 'stdout'), 'w+') as out:
+            subprocess.run([program] + paths, stdout=out, check=True)
+            out.seek(0)
+            return out.read()
+
+
+def count_numbers(kind, numbers, blocks):
+    """Prints how many random cases gave each number, and ends the program where one of them was never given."""
+    seen = [number for block in blocks for number in set(re.findall(r'^(?:ok|.*refused (\d+)) ', block, re.M))]
+    print('random %s: %d as expected' % (kind, len(blocks)))
+    for number in numbers:
+        count = seen.count(str(number or ''))
+        print('number %2d: %5d' % (number, count))
+        if not count:
+            sys.exit('number %d was never seen' % number)
+
+
+def check_random(program):
+    files = [[[sheet] for sheet in sheets.random_sheets()], list(plans.random_plans())]
+    blocks = [blocks_of(enumerate(cases, 1)) for cases in files]
+    compare(output_of(blocks), run(program, files), program, files)
+    count_numbers('sheets', range(15), blocks[0])
+    count_numbers('plans', [*range(22), 27, 28], blocks[1])
+
+
+def main(words):
+    if words[:1] == ['sheet'] and len(words) == 2:
+        print('\n'.join(sheets.shown(read_bytes(words[1]))))
+    elif words[:1] == ['lines']:
+        print(output_of_texts(words[1:]), end='')
+    elif words[:1] == ['check'] and len(words) == 2:
+        program = os.path.abspath(words[1])
+        os.chdir(ROOT)
+        check_stored()
+        check_random(program)
+    else:
+        sys.exit(__doc__)
+
+
+if __name__ == '__main__':
+    main(sys.argv[1:])

@@ -1,0 +1,9 @@
+pub mod Largest
+pub mod Rules
+pub mod Entered
+pub mod Times
+pub mod Published
+pub mod Counts
+pub mod Bounds
+pub mod Finish
+pub mod Examples

@@ -29,7 +29,7 @@ use Rattle.plan.specs.Valid.{passingList, ValidOrders}
 use Rattle.plan.specs.declared.Orders.{Orders}
 use Rattle.plan.proofs.Visitors.{step-cart}
 use Rattle.plan.proofs.Lists.{Listed, list-visitors, ahead-list}
-use Rattle.crossing.specs.Tables.{sheetCrossing, sheetGiven}
+use Rattle.crossing.specs.Tables.{crossingOf, sheetCrossing, sheetGiven}
 use Rattle.crossing.specs.Sound.{Sound}
 use Rattle.crossing.specs.Plans.{routesOf, listsOf, planCrossing}
 use Rattle.crossing.proofs.Tables.{step-below, steps-is, zone-is, before-is}
@@ -100,6 +100,7 @@ module _ (sheet : Sheet) (v : Valid sheet) (orders : Orders) (w : ValidOrders sh
       omega (arith, v .cart c (step-cart sheet v c j below) .step j below .zone-below)
 
   pub plan-complete : Complete (routesOf sheet) lists
+  unfolding crossingOf
   plan-complete = record {
     only-visitors = λ z c (k, h, at).
         let l = named-zone z k h in
@@ -114,6 +115,7 @@ module _ (sheet : Sheet) (v : Valid sheet) (orders : Orders) (w : ValidOrders sh
   -- ---- the orders
 
   agree : (z d c : ℕ) → Named (getD (routesOf sheet) c []) z → X .before z d c ≡ planCrossing sheet orders .before z d c
+  unfolding crossingOf
   agree z d c (j, h, at) =
       let (below, there) = step-is sheet v (orders .ahead) c j h in
       let l = step-below (sheet .steps) (sheet .zone) (orders .ahead) c j h in
@@ -123,6 +125,7 @@ module _ (sheet : Sheet) (v : Valid sheet) (orders : Orders) (w : ValidOrders sh
       ∙ ap (λ (list : List ℕ). isAhead list c d) (ap (passingList orders) (sym there ∙ at) ∙ sym (list-is z (visited-zone c z (j, h, at))))
 
   pub plan-only : OnlyVisitors X
+  unfolding crossingOf
   plan-only z d c b =
       let (j, h, at, _) = before-ahead sheet v (orders .ahead) z d c b in
       plan-visitors (routesOf sheet) lists plan-complete z d c (sym (agree z d c (j, h, at)) ∙ b)
@@ -132,8 +135,10 @@ module _ (sheet : Sheet) (v : Valid sheet) (orders : Orders) (w : ValidOrders sh
 
   -- the sets permit the moves that the lists do
   pub plan-system : system X ≡ system (planCrossing sheet orders)
+  unfolding crossingOf
   plan-system = system-same (routesOf sheet) (X .before) (planCrossing sheet orders .before) agree
 
   -- and give the same entering times
   pub plan-entering : (G : Given) (t : ℕ → ℕ → ℕ) (c s : ℕ) → s < steps X c → entering X G t c s ≡ entering (planCrossing sheet orders) G t c s
+  unfolding crossingOf
   plan-entering = entering-orders (routesOf sheet) (X .before) (planCrossing sheet orders .before) agree

@@ -4,3 +4,4 @@ pub mod Stored
 pub mod Moving
 pub mod Permission
 pub mod Steps
+pub mod Rounds

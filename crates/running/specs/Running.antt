@@ -71,7 +71,7 @@ module _ (X : Crossing) (G : Given) where
     pub none-left : made ≡ 0 → Stuck (system X) at
 
   -- "Make permitted moves until none is left": where the carts stand, how many moves they made, and the entering times on the way
-  pub record Settled (at enter : List ℕ) (made : ℕ) : Type 0 where
+  pub record SettlesAs (at enter : List ℕ) (made : ℕ) : Type 0 where
     pub at-end : at ≡ end (system X) (start (system X))
     pub counted : made ≡ sum at
     pub enter-is : EnteredTimes X G at (timesOf enter)

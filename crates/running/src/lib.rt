@@ -3,11 +3,12 @@ ghost use mathlib.Core.Path.{_≡_};
 ghost use mathlib.Core.Logic.{_↔_};
 ghost use mathlib.Core.Bool.{true};
 ghost use Prim.Native.Nat.{_≤_, _<_, max};
-ghost use lib.ListN.{length, getD, set};
+ghost use lib.ListN.{length, getD, set, replicate};
 ghost use Rattle.moves.specs.Moves.{Permitted};
 ghost use Rattle.routes.specs.Moves.{system};
 ghost use Rattle.crossing.specs.Tables.{crossingOf, givenOf};
-ghost use Rattle.running.specs.Running.{ZoneLeft, Standing, Running, HasMoved};
+ghost use Rattle.running.specs.Running.{ZoneLeft, Standing, Running, HasMoved, Advanced, Swept, SettlesAs};
+ghost use Rattle.crossing.specs.Sound.{Sound};
 ghost use Rattle.running.specs.Times.{gapOf, clearOf, latest, AtMost};
 
 // The later of two times.
@@ -175,4 +176,138 @@ fn make_move<'a>(
         return;
     }
     leave_zone(left, leave, y, c, over);
+}
+
+// Cart c moves on as far as it may; answers how many moves it made.
+fn advance<'a>(
+    steps: &'a [u8; 16],
+    zone: &'a [u8; 128],
+    ahead: &'a [u16; 128],
+    lane: &'a [u8; 16],
+    arrival: &'a [u32; 16],
+    passing: &'a [u16; 128],
+    travel: &'a [u16; 128],
+    follow: &'a [u16; 24],
+    cross: &'a [u16; 24],
+    at: &mut [u8; 16],
+    left: &mut [u16; 24],
+    leave: &mut [u32; 384],
+    enter: &mut [u32; 128],
+    c: usize,
+) -> usize
+    requires { ⌜ Running (crossingOf (now steps) (now zone) (now ahead)) (givenOf (now lane) (now arrival) (now passing) (now travel) (now follow) (now cross)) (now at) (now left) (now leave) (now enter) × (c < 16) ⌝ }
+    ensures { λ r. ⌜ Advanced (crossingOf (now (steps .entry)) (now (zone .entry)) (now (ahead .entry))) (givenOf (now (lane .entry)) (now (arrival .entry)) (now (passing .entry)) (now (travel .entry)) (now (follow .entry)) (now (cross .entry))) (now (at .entry)) (now (at .exit)) (now (left .exit)) (now (leave .exit)) (now (enter .exit)) c r ⌝ }
+{
+    let mut made = 0;
+    while may_move(steps, zone, ahead, at, left, c) {
+        make_move(
+            steps,
+            zone,
+            ahead,
+            lane,
+            arrival,
+            passing,
+            travel,
+            follow,
+            cross,
+            at,
+            left,
+            leave,
+            enter,
+            c,
+        );
+        made += 1;
+    }
+    made
+}
+
+// Every cart in turn moves on as far as it may; answers how many moves they made.
+fn sweep<'a>(
+    steps: &'a [u8; 16],
+    zone: &'a [u8; 128],
+    ahead: &'a [u16; 128],
+    lane: &'a [u8; 16],
+    arrival: &'a [u32; 16],
+    passing: &'a [u16; 128],
+    travel: &'a [u16; 128],
+    follow: &'a [u16; 24],
+    cross: &'a [u16; 24],
+    at: &mut [u8; 16],
+    left: &mut [u16; 24],
+    leave: &mut [u32; 384],
+    enter: &mut [u32; 128],
+) -> usize
+    requires { ⌜ Running (crossingOf (now steps) (now zone) (now ahead)) (givenOf (now lane) (now arrival) (now passing) (now travel) (now follow) (now cross)) (now at) (now left) (now leave) (now enter) ⌝ }
+    ensures { λ r. ⌜ Swept (crossingOf (now (steps .entry)) (now (zone .entry)) (now (ahead .entry))) (givenOf (now (lane .entry)) (now (arrival .entry)) (now (passing .entry)) (now (travel .entry)) (now (follow .entry)) (now (cross .entry))) (now (at .entry)) (now (at .exit)) (now (left .exit)) (now (leave .exit)) (now (enter .exit)) r ⌝ }
+{
+    let mut made = 0;
+    let mut c = 0;
+    while c < 16 {
+        made += advance(
+            steps,
+            zone,
+            ahead,
+            lane,
+            arrival,
+            passing,
+            travel,
+            follow,
+            cross,
+            at,
+            left,
+            leave,
+            enter,
+            c,
+        );
+        c += 1;
+    }
+    made
+}
+
+// Where the carts stand when no permitted move is left, and how many moves they made.
+pub struct Settled {
+    pub at: [u8; 16],
+    pub made: usize,
+}
+
+// Permitted moves are made until none is left. The table lent is all 0 and takes the entering times of the steps entered.
+pub fn settle<'a>(
+    steps: &'a [u8; 16],
+    zone: &'a [u8; 128],
+    ahead: &'a [u16; 128],
+    lane: &'a [u8; 16],
+    arrival: &'a [u32; 16],
+    passing: &'a [u16; 128],
+    travel: &'a [u16; 128],
+    follow: &'a [u16; 24],
+    cross: &'a [u16; 24],
+    enter: &mut [u32; 128],
+) -> Settled
+    requires { ⌜ Sound (crossingOf (now steps) (now zone) (now ahead)) (givenOf (now lane) (now arrival) (now passing) (now travel) (now follow) (now cross)) × (now enter ≡ replicate 128 0) ⌝ }
+    ensures { λ r. ⌜ SettlesAs (crossingOf (now (steps .entry)) (now (zone .entry)) (now (ahead .entry))) (givenOf (now (lane .entry)) (now (arrival .entry)) (now (passing .entry)) (now (travel .entry)) (now (follow .entry)) (now (cross .entry))) (r .at) (now (enter .exit)) (r .made) ⌝ }
+{
+    let mut at = [0u8; 16];
+    let mut left = [0u16; 24];
+    let mut leave = [0u32; 384];
+    let mut made = 0;
+    let mut moved = 1;
+    while 0 < moved {
+        moved = sweep(
+            steps,
+            zone,
+            ahead,
+            lane,
+            arrival,
+            passing,
+            travel,
+            follow,
+            cross,
+            &mut at,
+            &mut left,
+            &mut leave,
+            enter,
+        );
+        made += moved;
+    }
+    Settled { at, made }
 }

@@ -1,0 +1,7 @@
+pub mod Latest
+pub mod Left
+pub mod Stored
+pub mod Moving
+pub mod Permission
+pub mod Steps
+pub mod Rounds

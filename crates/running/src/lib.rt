@@ -1,0 +1,313 @@
+use sets::carts;
+ghost use mathlib.Core.Path.{_≡_};
+ghost use mathlib.Core.Logic.{_↔_};
+ghost use mathlib.Core.Bool.{true};
+ghost use Prim.Native.Nat.{_≤_, _<_, max};
+ghost use lib.ListN.{length, getD, set, replicate};
+ghost use Rattle.moves.specs.Moves.{Permitted};
+ghost use Rattle.routes.specs.Moves.{system};
+ghost use Rattle.crossing.specs.Tables.{crossingOf, givenOf};
+ghost use Rattle.running.specs.Running.{ZoneLeft, Standing, Running, HasMoved, Advanced, Swept, SettlesAs};
+ghost use Rattle.crossing.specs.Sound.{Sound};
+ghost use Rattle.running.specs.Times.{gapOf, clearOf, latest, AtMost};
+
+// The later of two times.
+fn later(a: u32, b: u32) -> u32
+    ensures { λ r. ⌜ r ≡ max a b ⌝ }
+{
+    if a < b { b } else { a }
+}
+
+// The gap that cart c keeps behind cart d in zone z.
+fn gap_behind<'a>(
+    lane: &'a [u8; 16],
+    follow: &'a [u16; 24],
+    cross: &'a [u16; 24],
+    z: usize,
+    d: usize,
+    c: usize,
+) -> u32
+    requires { ⌜ (z < 24) × (d < 16) × (c < 16) × AtMost 60000 (now follow) × AtMost 60000 (now cross) ⌝ }
+    ensures { λ r. ⌜ (r ≡ gapOf (now (lane .entry)) (now (follow .entry)) (now (cross .entry)) z d c) × (r ≤ 60000) ⌝ }
+{
+    if lane[d] == lane[c] {
+        follow[z] as u32
+    } else {
+        cross[z] as u32
+    }
+}
+
+// The latest of a time and the times at which cart c is clear of each cart ahead, all of which have left zone z.
+fn latest_clear<'a>(
+    lane: &'a [u8; 16],
+    follow: &'a [u16; 24],
+    cross: &'a [u16; 24],
+    leave: &[u32; 384],
+    z: usize,
+    c: usize,
+    ahead: u16,
+    ready: u32,
+) -> u32
+    requires { ⌜ (z < 24) × (c < 16) × AtMost 60000 (now follow) × AtMost 60000 (now cross) × AtMost 18900000 (now leave) ⌝ }
+    ensures { λ r. ⌜ r ≡ latest (clearOf (now (lane .entry)) (now (follow .entry)) (now (cross .entry)) (now (leave .entry)) z c) ahead ready ⌝ }
+{
+    let mut time = ready;
+    let mut others = ahead;
+    while 0 < others {
+        let d = carts::lowest(others);
+        others = carts::rest(others);
+        time = later(
+            time,
+            leave[16 * z + d] + gap_behind(lane, follow, cross, z, d, c),
+        );
+    }
+    time
+}
+
+// Cart c leaves zone z at a time.
+fn leave_zone(left: &mut [u16; 24], leave: &mut [u32; 384], z: usize, c: usize, time: u32)
+    requires { ⌜ (z < 24) × (c < 16) × (length (now left) ≡ 24) ⌝ }
+    ensures { λ r. ⌜ ZoneLeft (now (left .entry)) (now (leave .entry)) (now (left .exit)) (now (leave .exit)) z c time ⌝ }
+{
+    left[z] = carts::with(left[z], c);
+    leave[16 * z + c] = time;
+}
+
+// Whether the next move of cart c is permitted: into a zone that all carts ahead have left, or out.
+fn may_move<'a>(
+    steps: &'a [u8; 16],
+    zone: &'a [u8; 128],
+    ahead: &'a [u16; 128],
+    at: &[u8; 16],
+    left: &[u16; 24],
+    c: usize,
+) -> bool
+    requires { ⌜ Standing (crossingOf (now steps) (now zone) (now ahead)) (now at) (now left) × (c < 16) ⌝ }
+    ensures { λ r. ⌜ (r ≡ true) ↔ Permitted (system (crossingOf (now (steps .entry)) (now (zone .entry)) (now (ahead .entry)))) (now (at .entry)) c ⌝ }
+{
+    if at[c] < steps[c] {
+        let x = 8 * c + at[c] as usize;
+        let z = zone[x] as usize;
+        return carts::within(ahead[x], left[z]);
+    }
+    if steps[c] == 0 {
+        return false;
+    }
+    at[c] == steps[c]
+}
+
+// Cart c enters the zone of its step at x as soon as it is ready and clear of every cart ahead; answers the time.
+fn enter_zone<'a>(
+    zone: &'a [u8; 128],
+    ahead: &'a [u16; 128],
+    lane: &'a [u8; 16],
+    follow: &'a [u16; 24],
+    cross: &'a [u16; 24],
+    leave: &[u32; 384],
+    enter: &mut [u32; 128],
+    x: usize,
+    c: usize,
+    ready: u32,
+) -> u32
+    requires { ⌜ (x < 128) × (c < 16) × (getD (now zone) x 0 < 24) × AtMost 60000 (now follow) × AtMost 60000 (now cross) × AtMost 18900000 (now leave) ⌝ }
+    ensures { λ r. ⌜ (r ≡ latest (clearOf (now (lane .entry)) (now (follow .entry)) (now (cross .entry)) (now (leave .entry)) (getD (now (zone .entry)) x 0) c) (getD (now (ahead .entry)) x 0) ready) × (now (enter .exit) ≡ set (now (enter .entry)) x r) ⌝ }
+{
+    let z = zone[x] as usize;
+    let time = latest_clear(lane, follow, cross, leave, z, c, ahead[x], ready);
+    enter[x] = time;
+    time
+}
+
+// One permitted move of cart c: from the lane into its first zone, from a zone into the next, or out of the last.
+fn make_move<'a>(
+    steps: &'a [u8; 16],
+    zone: &'a [u8; 128],
+    ahead: &'a [u16; 128],
+    lane: &'a [u8; 16],
+    arrival: &'a [u32; 16],
+    passing: &'a [u16; 128],
+    travel: &'a [u16; 128],
+    follow: &'a [u16; 24],
+    cross: &'a [u16; 24],
+    at: &mut [u8; 16],
+    left: &mut [u16; 24],
+    leave: &mut [u32; 384],
+    enter: &mut [u32; 128],
+    c: usize,
+)
+    requires { ⌜ Running (crossingOf (now steps) (now zone) (now ahead)) (givenOf (now lane) (now arrival) (now passing) (now travel) (now follow) (now cross)) (now at) (now left) (now leave) (now enter) × (c < 16) × Permitted (system (crossingOf (now steps) (now zone) (now ahead))) (now at) c ⌝ }
+    ensures { λ r. ⌜ HasMoved (crossingOf (now (steps .entry)) (now (zone .entry)) (now (ahead .entry))) (givenOf (now (lane .entry)) (now (arrival .entry)) (now (passing .entry)) (now (travel .entry)) (now (follow .entry)) (now (cross .entry))) (now (at .entry)) (now (at .exit)) (now (left .exit)) (now (leave .exit)) (now (enter .exit)) c ⌝ }
+{
+    let p = at[c] as usize;
+    at[c] = at[c] + 1;
+    if p == 0 {
+        enter_zone(
+            zone,
+            ahead,
+            lane,
+            follow,
+            cross,
+            leave,
+            enter,
+            8 * c,
+            c,
+            arrival[c],
+        );
+        return;
+    }
+    let x = 8 * c + (p - 1);
+    let y = zone[x] as usize;
+    let over = enter[x] + passing[x] as u32;
+    if p < steps[c] as usize {
+        let ready = over + travel[x] as u32;
+        let time = enter_zone(
+            zone,
+            ahead,
+            lane,
+            follow,
+            cross,
+            leave,
+            enter,
+            x + 1,
+            c,
+            ready,
+        );
+        leave_zone(left, leave, y, c, time - travel[x] as u32);
+        return;
+    }
+    leave_zone(left, leave, y, c, over);
+}
+
+// Cart c moves on as far as it may; answers how many moves it made.
+fn advance<'a>(
+    steps: &'a [u8; 16],
+    zone: &'a [u8; 128],
+    ahead: &'a [u16; 128],
+    lane: &'a [u8; 16],
+    arrival: &'a [u32; 16],
+    passing: &'a [u16; 128],
+    travel: &'a [u16; 128],
+    follow: &'a [u16; 24],
+    cross: &'a [u16; 24],
+    at: &mut [u8; 16],
+    left: &mut [u16; 24],
+    leave: &mut [u32; 384],
+    enter: &mut [u32; 128],
+    c: usize,
+) -> usize
+    requires { ⌜ Running (crossingOf (now steps) (now zone) (now ahead)) (givenOf (now lane) (now arrival) (now passing) (now travel) (now follow) (now cross)) (now at) (now left) (now leave) (now enter) × (c < 16) ⌝ }
+    ensures { λ r. ⌜ Advanced (crossingOf (now (steps .entry)) (now (zone .entry)) (now (ahead .entry))) (givenOf (now (lane .entry)) (now (arrival .entry)) (now (passing .entry)) (now (travel .entry)) (now (follow .entry)) (now (cross .entry))) (now (at .entry)) (now (at .exit)) (now (left .exit)) (now (leave .exit)) (now (enter .exit)) c r ⌝ }
+{
+    let mut made = 0;
+    while may_move(steps, zone, ahead, at, left, c) {
+        make_move(
+            steps,
+            zone,
+            ahead,
+            lane,
+            arrival,
+            passing,
+            travel,
+            follow,
+            cross,
+            at,
+            left,
+            leave,
+            enter,
+            c,
+        );
+        made += 1;
+    }
+    made
+}
+
+// Every cart in turn moves on as far as it may; answers how many moves they made.
+fn sweep<'a>(
+    steps: &'a [u8; 16],
+    zone: &'a [u8; 128],
+    ahead: &'a [u16; 128],
+    lane: &'a [u8; 16],
+    arrival: &'a [u32; 16],
+    passing: &'a [u16; 128],
+    travel: &'a [u16; 128],
+    follow: &'a [u16; 24],
+    cross: &'a [u16; 24],
+    at: &mut [u8; 16],
+    left: &mut [u16; 24],
+    leave: &mut [u32; 384],
+    enter: &mut [u32; 128],
+) -> usize
+    requires { ⌜ Running (crossingOf (now steps) (now zone) (now ahead)) (givenOf (now lane) (now arrival) (now passing) (now travel) (now follow) (now cross)) (now at) (now left) (now leave) (now enter) ⌝ }
+    ensures { λ r. ⌜ Swept (crossingOf (now (steps .entry)) (now (zone .entry)) (now (ahead .entry))) (givenOf (now (lane .entry)) (now (arrival .entry)) (now (passing .entry)) (now (travel .entry)) (now (follow .entry)) (now (cross .entry))) (now (at .entry)) (now (at .exit)) (now (left .exit)) (now (leave .exit)) (now (enter .exit)) r ⌝ }
+{
+    let mut made = 0;
+    let mut c = 0;
+    while c < 16 {
+        made += advance(
+            steps,
+            zone,
+            ahead,
+            lane,
+            arrival,
+            passing,
+            travel,
+            follow,
+            cross,
+            at,
+            left,
+            leave,
+            enter,
+            c,
+        );
+        c += 1;
+    }
+    made
+}
+
+// Where the carts stand when no permitted move is left, and how many moves they made.
+pub struct Settled {
+    pub at: [u8; 16],
+    pub made: usize,
+}
+
+// Permitted moves are made until none is left. The table lent is all 0 and takes the entering times of the steps entered.
+pub fn settle<'a>(
+    steps: &'a [u8; 16],
+    zone: &'a [u8; 128],
+    ahead: &'a [u16; 128],
+    lane: &'a [u8; 16],
+    arrival: &'a [u32; 16],
+    passing: &'a [u16; 128],
+    travel: &'a [u16; 128],
+    follow: &'a [u16; 24],
+    cross: &'a [u16; 24],
+    enter: &mut [u32; 128],
+) -> Settled
+    requires { ⌜ Sound (crossingOf (now steps) (now zone) (now ahead)) (givenOf (now lane) (now arrival) (now passing) (now travel) (now follow) (now cross)) × (now enter ≡ replicate 128 0) ⌝ }
+    ensures { λ r. ⌜ SettlesAs (crossingOf (now (steps .entry)) (now (zone .entry)) (now (ahead .entry))) (givenOf (now (lane .entry)) (now (arrival .entry)) (now (passing .entry)) (now (travel .entry)) (now (follow .entry)) (now (cross .entry))) (r .at) (now (enter .exit)) (r .made) ⌝ }
+{
+    let mut at = [0u8; 16];
+    let mut left = [0u16; 24];
+    let mut leave = [0u32; 384];
+    let mut made = 0;
+    let mut moved = 1;
+    while 0 < moved {
+        moved = sweep(
+            steps,
+            zone,
+            ahead,
+            lane,
+            arrival,
+            passing,
+            travel,
+            follow,
+            cross,
+            &mut at,
+            &mut left,
+            &mut leave,
+            enter,
+        );
+        made += moved;
+    }
+    Settled { at, made }
+}

@@ -23,7 +23,6 @@ use Rattle.sheet.specs.Valid as valid
 use Rattle.sheet.specs.Valid.{Valid}
 use Rattle.sheet.specs.declared.Sheet.{Sheet}
 use Rattle.plan.specs.Lists.{visits}
-use Rattle.plan.specs.Lists as plans
 use Rattle.plan.specs.Written.{count, listed}
 use Rattle.plan.specs.Valid.{passingList, ValidOrders}
 use Rattle.plan.specs.declared.Orders.{Orders}
@@ -35,12 +34,6 @@ use Rattle.crossing.specs.Plans.{routesOf, listsOf, planCrossing}
 use Rattle.crossing.proofs.Tables.{step-below, steps-is, zone-is, before-is}
 use Rattle.crossing.proofs.Sheets.{step-is, sheet-once, sheet-sound, before-ahead}
 use Rattle.crossing.proofs.SameOrders.{system-same, entering-orders}
-
--- to be ahead is the same for a plan as it is read and for a plan as a crossing
-ahead-is : (list : List ℕ) (c d : ℕ) → plans.isAhead list c d ≡ isAhead list c d
-unfolding plans.isAhead isAhead
-ahead-is [] c d = refl
-ahead-is (a ∷ list) c d = ap (λ (b : Bool). pick (eqb a c) false (eqb a d || b)) (ahead-is list c d)
 
 module _ (sheet : Sheet) (v : Valid sheet) (orders : Orders) (w : ValidOrders sheet orders) where
   abbrev X : Crossing
@@ -121,7 +114,6 @@ module _ (sheet : Sheet) (v : Valid sheet) (orders : Orders) (w : ValidOrders sh
       let l = step-below (sheet .steps) (sheet .zone) (orders .ahead) c j h in
       before-is (sheet .steps) (sheet .zone) (orders .ahead) c l (sheet-once sheet v (orders .ahead)) j d z h at
       ∙ ahead-list sheet v orders w c j below d
-      ∙ ahead-is (passingList orders (valid.zone sheet c j)) c d
       ∙ ap (λ (list : List ℕ). isAhead list c d) (ap (passingList orders) (sym there ∙ at) ∙ sym (list-is z (visited-zone c z (j, h, at))))
 
   pub plan-only : OnlyVisitors X

@@ -14,7 +14,8 @@ use Rattle.sheet.specs.declared.Sheet.{Sheet}
 use Rattle.sheet.proofs.Tables.{table-used, table-unused}
 use Rattle.sheet.proofs.Accepted.{done-valid}
 use Rattle.plan.specs.Layout.{countAt, countOf, cartOf}
-use Rattle.plan.specs.Lists.{visitors, isAhead}
+use Rattle.routes.specs.Lists.{isAhead}
+use Rattle.plan.specs.Lists.{visitors}
 use Rattle.plan.specs.Reading.{planDone, aheadOf, ordersOf, readPlan}
 use Rattle.plan.specs.Written.{count, listed}
 use Rattle.plan.specs.Valid.{passingList, ahead, Shaped, ValidEntry, ValidList, UnusedZero, ValidOrders, sumBelow, planLength}

@@ -18,7 +18,7 @@ use Rattle.sheet.specs.Valid.{steps, zone, Valid}
 use Rattle.sheet.specs.declared.Sheet.{Sheet}
 use Rattle.sheet.proofs.Tables.{table-is}
 use Rattle.plan.specs.Layout.{versionAt, lengthAt, zoneCountAt, countAt, countOf, cartAt, cartOf, listOf}
-use Rattle.plan.specs.Lists.{isAhead}
+use Rattle.routes.specs.Lists.{isAhead}
 use Rattle.plan.specs.Reading.{aheadOf, ordersOf}
 use Rattle.plan.specs.Written.{count, listed}
 use Rattle.plan.specs.Valid.{passingList, ValidList, ValidOrders}

@@ -8,12 +8,12 @@ use Rattle.words.specs.Lists.{pick, entries}
 use Rattle.words.specs.Checks.{Check, done, firstFailing}
 use Rattle.words.specs.declared.Outcome.{Outcome}
 use Rattle.sets.specs.Counting.{setBelow}
+use Rattle.routes.specs.Lists.{isAhead}
 use Rattle.sheet.specs.Checks.{sheetChecks}
 use Rattle.sheet.specs.Reading.{blank, table, sheetOf}
 use Rattle.sheet.specs.Valid.{steps, zone}
 use Rattle.sheet.specs.declared.Sheet.{Sheet}
 use Rattle.plan.specs.Layout.{countOf, cartOf, listOf}
-use Rattle.plan.specs.Lists.{isAhead}
 use Rattle.plan.specs.Checks.{planChecks}
 use Rattle.plan.specs.declared.Orders.{Orders}
 use Rattle.plan.specs.declared.PlanRead.{PlanRead}

@@ -21,7 +21,8 @@ use Rattle.sets.proofs.Counting.{set-fits, has-set, set-same, ones-set}
 use Rattle.sheet.specs.Valid.{lane, Valid}
 use Rattle.sheet.specs.declared.Sheet.{Sheet}
 use Rattle.plan.specs.Layout.{countOf, cartOf, listOf}
-use Rattle.plan.specs.Lists.{visits, visitors, isAhead}
+use Rattle.routes.specs.Lists.{isAhead}
+use Rattle.plan.specs.Lists.{visits, visitors}
 use Rattle.plan.specs.Checks.{isListed, hasHigherAhead}
 use Rattle.plan.proofs.Visitors.{visitor-cart}
 use Rattle.lists.specs.Sets.{allButFrom, mayLead, whoVisits, withCart}

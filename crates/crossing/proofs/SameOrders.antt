@@ -7,7 +7,6 @@ use lib.ListN.{length, getD}
 use lib.Dec.{ltb}
 use borrow.Author.Tests.{ltb-true}
 use Rattle.words.specs.Lists.{pick}
-use Rattle.moves.specs.System.{System}
 use Rattle.routes.specs.Lists.{Named}
 use Rattle.routes.specs.Crossing.{Crossing, steps, zone, leftAt}
 use Rattle.routes.specs.Moves.{system}

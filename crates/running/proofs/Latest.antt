@@ -1,14 +1,13 @@
 -- The latest over a set: the lowest member taken first, and then the rest.
 use Prim.Native.Nat.{ℕ, _+_, _≤_, _<_, max}
-use mathlib.Core.Path.{_≡_, refl, sym, ap, _∙_}
+use mathlib.Core.Path.{_≡_, refl, ap, _∙_}
 use mathlib.Core.Bool.{Bool, false, not, _&&_, and-true, and-false}
 use native.Mathlib.Decide.{ℕ-discrete}
 use native.Mathlib.Nat.{le-refl}
 use native.Mathlib.Omega.{arith}
-use lib.Dec.{eqb}
 use borrow.Author.Tests.{eq-eqb, ne-eqb}
 use Rattle.words.specs.Lists.{pick}
-use Rattle.sets.specs.Member.{has, Without, Lowest, Rest}
+use Rattle.sets.specs.Member.{has, Lowest, Rest}
 use Rattle.sets.proofs.Laws.{has-none}
 use Rattle.times.specs.Times.{largest}
 use Rattle.times.proofs.Largest.{largest-most, largest-least}

@@ -5,3 +5,4 @@ pub mod Moving
 pub mod Permission
 pub mod Steps
 pub mod Rounds
+pub mod Verdict

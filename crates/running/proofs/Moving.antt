@@ -4,13 +4,12 @@ use mathlib.Core.Path.{_≡_, refl, sym, ap, _∙_}
 use mathlib.Core.Logic.{_⊎_, inl, inr}
 use mathlib.Core.Bool.{true}
 use mathlib.Core.List.{List}
-use native.Mathlib.Decide.{ℕ-discrete}
 use native.Mathlib.Nat.{le-trans}
 use native.Mathlib.Omega.{arith}
 use lib.ListN.{length, getD, set, length-set}
 use lib.Seq.{getD-set-same, getD-set-other}
 use Rattle.sets.specs.Member.{has}
-use Rattle.moves.specs.System.{System, carts, pos, start, InRange}
+use Rattle.moves.specs.System.{System, pos, start, InRange}
 use Rattle.moves.specs.Moves.{moved, Permitted}
 use Rattle.moves.specs.Records.{Closed}
 use Rattle.moves.proofs.Positions.{moved-same, moved-up}
@@ -91,7 +90,7 @@ module _ (X : Crossing) (G : Given) (at left leave enter : List ℕ) (run : Runn
           moved-entered X G (run .sound .only) at c closed m (timesOf enter) (timesOf (set enter x time)) (run .enter-is) entered-kept
           (λ _. entered-here ∙ time-is)
 
-      pub time-most : time ≤ 18840000
+      time-most : time ≤ 18840000
       time-most = rw time-is (next-bound X G (run .sound .only) (run .sound .ranged) (timesOf enter) at (run .reached) (run .enter-is) c m below)
 
       entered-most : AtMost 18840000 (set enter x time)

@@ -21,7 +21,8 @@ use Rattle.routes.specs.Moves.{movesOf, system}
 use Rattle.routes.proofs.Moves.{carts-are, out-are}
 use Rattle.times.specs.Times.{Given}
 use Rattle.crossing.specs.Sound.{Sound}
-use Rattle.running.specs.Running.{Running, HasMoved, Advanced, Swept, SettlesAs}
+use Rattle.running.specs.Settled.{SettlesAs}
+use Rattle.running.specs.Running.{Running, HasMoved, Advanced, Swept}
 use Rattle.running.proofs.Moving.{in-range}
 
 sum-most : (list : List ℕ) (most : ℕ) → ((c : ℕ) → pos list c ≤ most) → sum list ≤ most * length list
@@ -46,13 +47,13 @@ module _ (X : Crossing) (G : Given) where
     places-few : length at ≤ 16
     places-few = omega (arith, in-range X G at left leave enter run .sized, carts-are X, run .sound .ranged .carts-most)
 
-    pub sum-few : sum at ≤ 144
+    sum-few : sum at ≤ 144
     sum-few = omega (arith, sum-most at 9 place-most, places-few)
 
     cart-inside : (c : ℕ) → Permitted S at c → c < length at
     cart-inside c m = omega (arith, permitted-cart S at c m, in-range X G at left leave enter run .sized)
 
-    pub permitted-16 : (c : ℕ) → Permitted S at c → c < 16
+    permitted-16 : (c : ℕ) → Permitted S at c → c < 16
     permitted-16 c m = omega (arith, cart-inside c m, places-few)
 
   -- ---- one cart moves on
@@ -161,7 +162,9 @@ module _ (X : Crossing) (G : Given) where
     settling-end done = record {
       at-end = end-unique S (start S) at (start-in-range S) (on .running .reached) (on .none-left (omega arith));
       counted = on .counted;
+      enter-128 = on .running .enter-128;
       enter-is = on .running .enter-is;
+      enter-most = on .running .enter-most;
       not-entered = on .running .not-entered;
     }
 

@@ -1,2 +1,3 @@
 pub mod Times
+pub mod Settled
 pub mod Running

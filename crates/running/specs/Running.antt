@@ -6,9 +6,9 @@ use mathlib.Core.Bool.{true}
 use mathlib.Core.List.{List}
 use lib.ListN.{length, getD, set}
 use Rattle.sets.specs.Member.{has}
-use Rattle.moves.specs.System.{pos, start, sum}
+use Rattle.moves.specs.System.{pos, sum}
 use Rattle.moves.specs.Moves.{moved, Permitted}
-use Rattle.moves.specs.Runs.{Stuck, end}
+use Rattle.moves.specs.Runs.{Stuck}
 use Rattle.moves.specs.Records.{Reached}
 use Rattle.routes.specs.Crossing.{Crossing, steps, zone, stepIn, HasLeft}
 use Rattle.routes.specs.Moves.{system}
@@ -28,7 +28,7 @@ pub record ZoneLeft (left leave more after : List ℕ) (z c time : ℕ) : Type 0
   pub left-24 : length more ≡ 24
   pub stored : after ≡ set leave (16 * z + c) time
 
--- what tells which moves are permitted: `left` has for each zone the carts that have left it
+-- what tells whether a move is permitted: `left` has for each zone the carts that have left it
 pub record Standing (X : Crossing) (at left : List ℕ) : Type 0 where
   pub once : NamesOnce X
   pub only : OnlyVisitors X
@@ -69,10 +69,3 @@ module _ (X : Crossing) (G : Given) where
     pub running : Running at left leave enter
     pub counted : sum at ≡ sum old + made
     pub none-left : made ≡ 0 → Stuck (system X) at
-
-  -- "Make permitted moves until none is left": where the carts stand, how many moves they made, and the entering times on the way
-  pub record SettlesAs (at enter : List ℕ) (made : ℕ) : Type 0 where
-    pub at-end : at ≡ end (system X) (start (system X))
-    pub counted : made ≡ sum at
-    pub enter-is : EnteredTimes X G at (timesOf enter)
-    pub not-entered : (c p : ℕ) → p < 8 → ¬ ((p < pos at c) × (p < steps X c)) → timesOf enter c p ≡ 0

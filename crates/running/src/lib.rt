@@ -7,9 +7,10 @@ ghost use lib.ListN.{length, getD, set, replicate};
 ghost use Rattle.moves.specs.Moves.{Permitted};
 ghost use Rattle.routes.specs.Moves.{system};
 ghost use Rattle.crossing.specs.Tables.{crossingOf, givenOf};
-ghost use Rattle.running.specs.Running.{ZoneLeft, Standing, Running, HasMoved, Advanced, Swept, SettlesAs};
 ghost use Rattle.crossing.specs.Sound.{Sound};
 ghost use Rattle.running.specs.Times.{gapOf, clearOf, latest, AtMost};
+ghost use Rattle.running.specs.Running.{ZoneLeft, Standing, Running, HasMoved, Advanced, Swept};
+ghost use Rattle.running.specs.Settled.{SettlesAs};
 
 // The later of two times.
 fn later(a: u32, b: u32) -> u32

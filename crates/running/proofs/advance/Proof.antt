@@ -7,7 +7,6 @@ use Rattle.moves.specs.System.{pos}
 use Rattle.crossing.specs.Tables.{crossingOf, givenOf}
 use Rattle.running.proofs.Steps.{running-standing}
 use Rattle.running.proofs.Rounds.{Onward, onward-start, made-few, onward-end, onward-turn, onward-less}
-use borrow.Author.Needs.{needs}
 use Rattle.running.proofs.advance.Statement.{statement}
 use Rattle.running.proofs.advance.Tie as tie
 

@@ -1,6 +1,4 @@
 -- The cart joins the zone's set, and its time is stored.
-use mathlib.Core.Path.{refl, _∙_}
-use native.Mathlib.Omega.{arith}
 use Rattle.running.proofs.Stored.{zone-left}
 use borrow.Author.Needs.{needs}
 use Rattle.running.proofs.leave_zone.Statement.{statement}

@@ -5,7 +5,6 @@ use native.Mathlib.Omega.{arith}
 use Rattle.crossing.specs.Tables.{crossingOf, givenOf}
 use Rattle.crossing.proofs.Tables.{carts-16}
 use Rattle.running.proofs.Rounds.{running-start, Settling, settling-start, settling-end, settling-few, settling-turn, settling-less}
-use borrow.Author.Needs.{needs}
 use Rattle.running.proofs.settle.Statement.{statement}
 use Rattle.running.proofs.settle.Tie as tie
 

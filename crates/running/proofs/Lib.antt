@@ -1,4 +1,3 @@
-pub mod Latest
 pub mod Left
 pub mod Stored
 pub mod Moving

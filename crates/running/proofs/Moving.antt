@@ -25,7 +25,7 @@ use Rattle.times.proofs.Rules.{leaving-cases, leaving-up}
 use Rattle.times.proofs.Entered.{moved-entered}
 use Rattle.times.proofs.Bounds.{next-bound}
 use Rattle.crossing.specs.Tables.{LeftSet}
-use Rattle.running.specs.Times.{timesOf, AtMost}
+use Rattle.entering.specs.Times.{timesOf, AtMost}
 use Rattle.running.specs.Running.{Joins, ZoneLeft, Running}
 use Rattle.running.proofs.Left.{WasIn, left-kept, left-new, left-cases}
 use Rattle.running.proofs.Stored.{most-stored}

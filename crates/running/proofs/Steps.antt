@@ -18,7 +18,7 @@ use Rattle.times.proofs.Largest.{largest-same}
 use Rattle.crossing.specs.Tables.{crossingOf, givenOf}
 use Rattle.crossing.proofs.Tables.{routes-16, steps-is, zone-is, before-is}
 use Rattle.crossing.proofs.Permitted.{permitted-within}
-use Rattle.running.specs.Times.{timesOf, clearOf, latest, AtMost}
+use Rattle.entering.specs.Times.{timesOf, clearOf, latest, AtMost}
 use Rattle.running.specs.Running.{Standing, ZoneLeft, Running, HasMoved}
 use Rattle.running.proofs.Moving.{running-first, running-next, running-out}
 

@@ -1,3 +1,2 @@
-pub mod Times
 pub mod Settled
 pub mod Running

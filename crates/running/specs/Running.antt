@@ -16,7 +16,7 @@ use Rattle.routes.specs.Orders.{NamesOnce, OnlyVisitors}
 use Rattle.times.specs.Times.{Given, leaving, EnteredTimes}
 use Rattle.crossing.specs.Tables.{LeftSet}
 use Rattle.crossing.specs.Sound.{Sound}
-use Rattle.running.specs.Times.{timesOf, AtMost}
+use Rattle.entering.specs.Times.{timesOf, AtMost}
 
 -- cart c joins zone z's set, and no set changes else
 abbrev pub Joins : List ℕ → List ℕ → ℕ → ℕ → Type 0

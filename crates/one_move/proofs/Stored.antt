@@ -12,7 +12,7 @@ use lib.Dec.{eqb}
 use borrow.Author.Tests.{eqb-true, eq-eqb}
 use Rattle.sets.specs.Member.{has, With}
 use Rattle.entering.specs.Times.{AtMost}
-use Rattle.running.specs.Running.{Joins, ZoneLeft}
+use Rattle.one_move.specs.Running.{Joins, ZoneLeft}
 
 pub most-stored : (most : ℕ) (table : List ℕ) (x value : ℕ) → AtMost most table → x < length table → value ≤ most → AtMost most (set table x value)
 most-stored most table x value all l h y = go (ℕ-discrete y x)

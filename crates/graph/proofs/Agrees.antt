@@ -1,6 +1,5 @@
 -- For complete plans the published graph has a cycle exactly where the moves have one, which is where not all carts come out.
 use Prim.Native.Nat.{ℕ}
-use mathlib.Core.Path.{_≡_}
 use mathlib.Core.Logic.{_↔_, _⊎_, inl, inr}
 use mathlib.Core.List.{List}
 use Rattle.moves.specs.System.{System, start}
@@ -8,9 +7,9 @@ use Rattle.moves.specs.Runs.{AllComeOut, Stuck, end}
 use Rattle.moves.specs.Records.{Meetable}
 use Rattle.moves.specs.Cycles.{Cycle}
 use Rattle.moves.specs.Rings.{LowestNotOut, Points, follow}
-use Rattle.moves.proofs.Runs.{start-in-range, reaches-in-range}
+use Rattle.moves.proofs.Runs.{start-in-range}
 use Rattle.moves.proofs.Ends.{end-reached, end-stuck}
-use Rattle.moves.proofs.Out.{out-or-not, stuck-out}
+use Rattle.moves.proofs.Out.{stuck-out, out-or-left}
 use Rattle.moves.proofs.Rings.{follow-not-out, follow-waits, stuck-repeats}
 use Rattle.moves.proofs.Cycles.{locked-iff-cycle}
 use Rattle.routes.specs.Crossing.{Crossing}
@@ -44,14 +43,11 @@ module _ (routes lists : List (List ℕ)) (full : Complete routes lists) where
       ring-cyclic routes lists (plan-visitors routes lists full) s d (follow-waits S meet s stuck to points d in-ring) (r .turn) (r .again)
 
   out-or-cyclic : AllComeOut S (start S) ⊎ Cyclic X
-  out-or-cyclic = go (out-or-not S u (reaches-in-range S (start S) u (start-in-range S) (end-reached S (start S))))
+  out-or-cyclic = go (out-or-left S)
     where
-      u : List ℕ
-      u = end S (start S)
-
-      go : (u ≡ S .out) ⊎ ((c : ℕ) × LowestNotOut S u c) → AllComeOut S (start S) ⊎ Cyclic X
-      go (inl out) = inl (rw out at (end-reached S (start S)))
-      go (inr left) = inr (stuck-cyclic u (end-stuck S (start S) (start-in-range S)) left)
+      go : AllComeOut S (start S) ⊎ ((c : ℕ) × LowestNotOut S (end S (start S)) c) → AllComeOut S (start S) ⊎ Cyclic X
+      go (inl all) = inl all
+      go (inr left) = inr (stuck-cyclic (end S (start S)) (end-stuck S (start S) (start-in-range S)) left)
 
   -- not all come out exactly where the graph has a cycle
   pub graph-locked : Cyclic X ↔ (¬ (AllComeOut S (start S)))

@@ -12,9 +12,9 @@ use Rattle.moves.specs.Records.{Meetable}
 use Rattle.moves.specs.Cycles.{Chain, Cycle, Ranked}
 use Rattle.moves.specs.Rings.{LowestNotOut, Points, follow}
 use Rattle.moves.proofs.Moves.{lowestWaited, lowest-points}
-use Rattle.moves.proofs.Runs.{start-in-range, reaches-in-range}
-use Rattle.moves.proofs.Ends.{end-reached, end-stuck}
-use Rattle.moves.proofs.Out.{out-or-not, stuck-out}
+use Rattle.moves.proofs.Runs.{start-in-range}
+use Rattle.moves.proofs.Ends.{end-stuck}
+use Rattle.moves.proofs.Out.{stuck-out, out-or-left}
 use Rattle.moves.proofs.Pointing.{Repeats}
 use Rattle.moves.proofs.Rings.{follow-not-out, follow-waits, stuck-repeats}
 use Rattle.moves.proofs.Before.{chain-join, waits-chain}
@@ -58,14 +58,11 @@ module _ (S : System) (meet : Meetable S) where
       in-ring = stays c h (r .enter)
 
   pub out-or-cycle : AllComeOut S (start S) ⊎ Cycle S
-  out-or-cycle = go (out-or-not S u (reaches-in-range S (start S) u (start-in-range S) (end-reached S (start S))))
+  out-or-cycle = go (out-or-left S)
     where
-      u : List ℕ
-      u = end S (start S)
-
-      go : (u ≡ S .out) ⊎ ((c : ℕ) × LowestNotOut S u c) → AllComeOut S (start S) ⊎ Cycle S
-      go (inl e) = inl (rw e at (end-reached S (start S)))
-      go (inr (c, h)) = inr (stuck-cycle u (end-stuck S (start S) (start-in-range S)) c (h .not-out))
+      go : AllComeOut S (start S) ⊎ ((c : ℕ) × LowestNotOut S (end S (start S)) c) → AllComeOut S (start S) ⊎ Cycle S
+      go (inl all) = inl all
+      go (inr (c, h)) = inr (stuck-cycle (end S (start S)) (end-stuck S (start S) (start-in-range S)) c (h .not-out))
 
   pub out-iff-no-cycle : AllComeOut S (start S) ↔ (¬ (Cycle S))
   out-iff-no-cycle = (λ all. ranked-no-cycle S (out-ranked S all), λ none. go none out-or-cycle)

@@ -70,6 +70,15 @@ module _ (S : System) where
       go (some c) (l, is-in, lower) =
           inr (c, record { not-out = ltb-true _ _ is-in; lower-out = λ d h k. omega (arith, ltb-false (pos s d) (pos (S .out) d) (lower d h)) })
 
+  -- all come out, or a lowest cart is left behind where no move is left
+  pub out-or-left : AllComeOut S (start S) ⊎ ((c : ℕ) × LowestNotOut S (end S (start S)) c)
+  out-or-left = go (out-or-not (end S (start S)) (reaches-in-range S (start S) (end S (start S)) (start-in-range S) (end-reached S (start S))))
+    where
+      go : (end S (start S) ≡ S .out) ⊎ ((c : ℕ) × LowestNotOut S (end S (start S)) c)
+          → AllComeOut S (start S) ⊎ ((c : ℕ) × LowestNotOut S (end S (start S)) c)
+      go (inl out) = inl (rw out at (end-reached S (start S)))
+      go (inr left) = inr left
+
   pub lowest-not-out-unique : (s : List ℕ) (c d : ℕ) → LowestNotOut S s c → LowestNotOut S s d → c ≡ d
   lowest-not-out-unique s c d x y = go (decLt c d) (decLt d c)
     where

@@ -10,7 +10,7 @@ use lib.Dec.{ltb}
 use Rattle.words.specs.Lists.{pick}
 use Rattle.words.proofs.Tests.{ltb-says, and-says}
 use Rattle.moves.specs.System.{carts, pos}
-use Rattle.moves.specs.Moves.{IsMove, Permitted}
+use Rattle.moves.specs.Moves.{Permitted}
 use Rattle.moves.specs.Records.{Meetable}
 use Rattle.moves.proofs.Positions.{pos-inside}
 use Rattle.routes.specs.Lists.{placeOf}
@@ -25,10 +25,6 @@ moves-all : (k j : ℕ) → j < k → movesOf k ≡ suc k
 moves-all zero j h = absurd (omega arith)
 moves-all (suc k) j h = refl
 
-moves-within : (k p : ℕ) → p < movesOf k → (0 < k) × (p ≤ k)
-moves-within zero p h = absurd (omega arith)
-moves-within (suc k) p h = omega arith
-
 module _ (X : Crossing) where
   pub carts-are : carts (system X) ≡ length (X .routes)
   carts-are = length-map (X .routes) (λ route. movesOf (length route))
@@ -39,10 +35,6 @@ module _ (X : Crossing) where
   -- a cart with a step makes one more move than it has steps
   pub out-steps : (c j : ℕ) → j < steps X c → pos (system X .out) c ≡ suc (steps X c)
   out-steps c j h = out-are c ∙ moves-all (steps X c) j h
-
-  -- a move is into a zone, or out of the last
-  pub move-within : (c p : ℕ) → IsMove (system X) c p → (0 < steps X c) × (p ≤ steps X c)
-  move-within c p m = moves-within (steps X c) p (rw (out-are c) at m)
 
   pub step-cart : (c j : ℕ) → j < steps X c → c < carts (system X)
   step-cart c j h = pos-inside (system X .out) c j (omega (arith, out-steps c j h))

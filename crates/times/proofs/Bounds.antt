@@ -18,8 +18,9 @@ use Rattle.moves.proofs.Runs.{start-none, reaches-keeps, reaches-in-range, star
 use Rattle.routes.specs.Crossing.{Crossing, steps, zone, stepIn}
 use Rattle.routes.specs.Moves.{system}
 use Rattle.routes.specs.Orders.{OnlyVisitors}
+use Rattle.routes.proofs.Moves.{carts-are, before-cart}
 use Rattle.times.specs.Times.{Given, gap, ready, clear, entering, EnteredTimes, Ranged}
-use Rattle.times.proofs.Rules.{LeavingIs, leaving-cases, entering-most}
+use Rattle.times.proofs.Rules.{LeavingIs, leaving-cases, entering-ready, entering-clear, entering-most}
 use Rattle.times.proofs.Entered.{Met, ahead-left}
 use Rattle.times.proofs.Counts.{enteredSteps, entered-kept, entered-more, entered-most, steps-sum}
 
@@ -34,7 +35,7 @@ module _ (X : Crossing) (G : Given) (only : OnlyVisitors X) (ranged : Ranged X G
   abbrev stepMost : ℕ
   stepMost = 120000
 
-  gap-most : (z d c : ℕ) → gap X G z d c ≤ 60000
+  gap-most : (z d c : ℕ) → gap G z d c ≤ 60000
   gap-most z d c = go (eqb (G .lane d) (G .lane c))
     where
       go : (same : Bool) → pick same (G .follow z) (G .cross z) ≤ 60000
@@ -51,7 +52,7 @@ module _ (X : Crossing) (G : Given) (only : OnlyVisitors X) (ranged : Ranged X G
         → entering X G t c p ≤ arrivalMost + n * stepMost
     entering-early s n early c p at h met = entering-most X G t c p (arrivalMost + n * stepMost) (own p at h) others
       where
-        own : (p : ℕ) → p ≤ pos s c → p < steps X c → ready X G t c p ≤ arrivalMost + n * stepMost
+        own : (p : ℕ) → p ≤ pos s c → p < steps X c → ready G t c p ≤ arrivalMost + n * stepMost
         own zero at h = omega (arith, ranged .arrival-most c)
         own (suc q) at h =
             let inside : q < steps X c = omega arith in
@@ -97,7 +98,9 @@ module _ (X : Crossing) (G : Given) (only : OnlyVisitors X) (ranged : Ranged X G
 
       pub entered-early : EarlyBy final (count final)
       unfolding Early
-      entered-early = reaches-keeps S Early early-moved (start S) final reached (length-replicate (carts S) 0, λ _ c p h. absurd (start-none S c p h)) .1 (λ c. le-refl _)
+      entered-early =
+          let begin : Early (start S) = (length-replicate (carts S) 0, λ _ c p h. absurd (start-none S c p h)) in
+          reaches-keeps S Early early-moved (start S) final reached begin .1 (λ c. le-refl _)
 
       steps-few : sum (map length (X .routes)) ≤ 128
       steps-few = omega (arith, steps-sum (X .routes) 8 (ranged .steps-most), ranged .carts-most)
@@ -110,4 +113,15 @@ module _ (X : Crossing) (G : Given) (only : OnlyVisitors X) (ranged : Ranged X G
       next-bound c m inside =
           let sized = reaches-in-range S (start S) final (start-in-range S) reached .sized in
           let more = entered-more (X .routes) final c (rw sized (permitted-cart S final c m)) inside in
-          omega (arith, entering-early final (count final) entered-early c (pos final c) (le-refl _) inside (m .met), more, entered-most (X .routes) (moved final c), steps-few)
+          let early = entering-early final (count final) entered-early c (pos final c) (le-refl _) inside (m .met) in
+          omega (arith, entered-most (X .routes) (moved final c), steps-few)
+
+      -- and of what that is the largest of: no sum on the way overflows 32 bits
+      pub next-ready-bound : (c : ℕ) → Permitted S final c → pos final c < steps X c → ready G t c (pos final c) ≤ 18840000
+      next-ready-bound c m inside = le-trans (entering-ready X G t c (pos final c)) (next-bound c m inside)
+
+      pub next-clear-bound : (c d : ℕ) → Permitted S final c → pos final c < steps X c → X .before (zone X c (pos final c)) d c ≡ true
+          → clear X G t c (pos final c) d ≤ 18840000
+      next-clear-bound c d m inside b =
+          let cart = rw (carts-are X) at (before-cart X only (zone X c (pos final c)) d c b) in
+          le-trans (entering-clear X G t c (pos final c) d cart b) (next-bound c m inside)

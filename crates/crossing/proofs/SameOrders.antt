@@ -36,5 +36,5 @@ module _ (routes : List (List ℕ)) (before other : ℕ → ℕ → ℕ → Bool
   pub entering-orders : (G : Given) (t : ℕ → ℕ → ℕ) (c s : ℕ) → s < steps X c → entering X G t c s ≡ entering Y G t c s
   unfolding entering
   entering-orders G t c s h =
-      ap (λ (k : ℕ). max (ready X G t c s) k)
+      ap (λ (k : ℕ). max (ready G t c s) k)
       (largest-same _ _ (length routes) λ d _. ap (λ (b : Bool). pick b (clear X G t c s d) 0) (agree (zone X c s) d c (s, h, refl)))

@@ -74,18 +74,18 @@ module _ (stepTable zoneTable aheadTable lane arrival passing travel follow cros
   -- ---- entering
 
   -- the latest over the set ahead is the entering time
-  latest-here : (own : ℕ) → p < steps X c → own ≡ ready X G (timesOf enter) c p
+  latest-here : (own : ℕ) → p < steps X c → own ≡ ready G (timesOf enter) c p
       → latest (clearOf lane follow cross leave (zone X c p) c) (getD aheadTable (8 * c + p) 0) own ≡ entering X G (timesOf enter) c p
   unfolding latest entering givenOf
   latest-here own below own-is =
       rw (own-is, routes-16 stepTable zoneTable aheadTable)
-      (ap (λ (k : ℕ). max (ready X G (timesOf enter) c p) k) (largest-same _ _ 16 (λ d _. each d)))
+      (ap (λ (k : ℕ). max (ready G (timesOf enter) c p) k) (largest-same _ _ 16 (λ d _. each d)))
     where
       behind : (d : ℕ) (b : Bool) → X .before (zone X c p) d c ≡ b
           → pick b (clearOf lane follow cross leave (zone X c p) c d) 0 ≡ pick b (clear X G (timesOf enter) c p d) 0
       behind d true e =
           let left-it = permitted-by-rule X (run .sound .only) at c .0 m .into below d e in
-          ap (λ (k : ℕ). k + gap X G (zone X c p) d c) (run .leave-is (zone X c p) d left-it)
+          ap (λ (k : ℕ). k + gap G (zone X c p) d c) (run .leave-is (zone X c p) d left-it)
       behind d false e = refl
 
       each : (d : ℕ) → pick (has (getD aheadTable (8 * c + p) 0) d) (clearOf lane follow cross leave (zone X c p) c d) 0
@@ -95,7 +95,7 @@ module _ (stepTable zoneTable aheadTable lane arrival passing travel follow cros
           (sym (before-is stepTable zoneTable aheadTable c l (run .sound .once) p d (zone X c p) below refl))
           ∙ behind d (X .before (zone X c p) d c) refl
 
-  latest-entering : (own : ℕ) → p < steps X c → own ≡ ready X G (timesOf enter) c p
+  latest-entering : (own : ℕ) → p < steps X c → own ≡ ready G (timesOf enter) c p
       → latest (clearOf lane follow cross leave (getD zoneTable (8 * c + p) 0) c) (getD aheadTable (8 * c + p) 0) own ≡ entering X G (timesOf enter) c p
   latest-entering own below own-is =
       sym (ap (λ (z : ℕ). latest (clearOf lane follow cross leave z c) (getD aheadTable (8 * c + p) 0) own) (zone-at p below))
@@ -125,7 +125,7 @@ module _ (stepTable zoneTable aheadTable lane arrival passing travel follow cros
         is : time ≡ entering X G (timesOf enter) c p
         is =
             time-is
-            ∙ (rw first at (latest-entering (getD arrival c 0) (omega (arith, counted, within)) (ap (ready X G (timesOf enter) c) (sym at-start))))
+            ∙ (rw first at (latest-entering (getD arrival c 0) (omega (arith, counted, within)) (ap (ready G (timesOf enter) c) (sym at-start))))
 
   -- ---- out of a zone
 
@@ -169,7 +169,7 @@ module _ (stepTable zoneTable aheadTable lane arrival passing travel follow cros
         inside = omega (arith, counted)
 
         is : time ≡ entering X G (timesOf enter) c p
-        is = time-is ∙ rw (← next-index) at (latest-entering _ inside (ap (ready X G (timesOf enter) c) step))
+        is = time-is ∙ rw (← next-index) at (latest-entering _ inside (ap (ready G (timesOf enter) c) step))
 
     -- or out of the last
     pub out-moved : (more after : List ℕ) → getD stepTable c 0 ≤ p

@@ -1,8 +1,2 @@
-pub mod Latest
-pub mod Left
-pub mod Stored
-pub mod Moving
-pub mod Permission
-pub mod Steps
 pub mod Rounds
 pub mod Verdict

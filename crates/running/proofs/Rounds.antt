@@ -22,8 +22,9 @@ use Rattle.routes.proofs.Moves.{carts-are, out-are}
 use Rattle.times.specs.Times.{Given}
 use Rattle.crossing.specs.Sound.{Sound}
 use Rattle.running.specs.Settled.{SettlesAs}
-use Rattle.running.specs.Running.{Running, HasMoved, Advanced, Swept}
-use Rattle.running.proofs.Moving.{in-range}
+use Rattle.one_move.specs.Running.{Running, HasMoved}
+use Rattle.running.specs.Rounds.{Advanced, Swept}
+use Rattle.one_move.proofs.Moving.{in-range}
 
 sum-most : (list : List ℕ) (most : ℕ) → ((c : ℕ) → pos list c ≤ most) → sum list ≤ most * length list
 sum-most [] most h = zero-le

@@ -21,7 +21,7 @@ use Rattle.routes.proofs.Moves.{out-steps}
 use Rattle.routes.proofs.Counts.{out-sum}
 use Rattle.times.specs.Times.{Given, EnteringTimes, EnteredTimes}
 use Rattle.times.proofs.Times.{entered-least}
-use Rattle.running.specs.Times.{timesOf}
+use Rattle.entering.specs.Times.{timesOf}
 use Rattle.running.specs.Settled.{SettlesAs}
 
 module _ (X : Crossing) (G : Given) (at enter : List ℕ) (made : ℕ) (settled : SettlesAs X G at enter made) where

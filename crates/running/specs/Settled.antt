@@ -8,7 +8,7 @@ use Rattle.moves.specs.Runs.{end}
 use Rattle.routes.specs.Crossing.{Crossing, steps}
 use Rattle.routes.specs.Moves.{system}
 use Rattle.times.specs.Times.{Given, EnteredTimes}
-use Rattle.running.specs.Times.{timesOf, AtMost}
+use Rattle.entering.specs.Times.{timesOf, AtMost}
 
 -- no move is left: where the carts stand, how many moves they made, and the entering times of the steps entered, 0 for the others
 pub record SettlesAs (X : Crossing) (G : Given) (at enter : List ℕ) (made : ℕ) : Type 0 where

@@ -5,7 +5,7 @@ use mathlib.Core.Bool.{true≢false}
 use native.Mathlib.Omega.{arith}
 use Rattle.moves.specs.System.{pos}
 use Rattle.crossing.specs.Tables.{crossingOf, givenOf}
-use Rattle.running.proofs.Steps.{running-standing}
+use Rattle.one_move.proofs.Steps.{running-standing}
 use Rattle.running.proofs.Rounds.{Onward, onward-start, made-few, onward-end, onward-turn, onward-less}
 use Rattle.running.proofs.advance.Statement.{statement}
 use Rattle.running.proofs.advance.Tie as tie

@@ -18,9 +18,9 @@ use Rattle.times.proofs.Largest.{largest-same}
 use Rattle.crossing.specs.Tables.{crossingOf, givenOf}
 use Rattle.crossing.proofs.Tables.{routes-16, steps-is, zone-is, before-is}
 use Rattle.crossing.proofs.Permitted.{permitted-within}
-use Rattle.running.specs.Times.{timesOf, clearOf, latest, AtMost}
-use Rattle.running.specs.Running.{Standing, ZoneLeft, Running, HasMoved}
-use Rattle.running.proofs.Moving.{running-first, running-next, running-out}
+use Rattle.entering.specs.Times.{timesOf, clearOf, latest, AtMost}
+use Rattle.one_move.specs.Running.{Standing, ZoneLeft, Running, HasMoved}
+use Rattle.one_move.proofs.Moving.{running-first, running-next, running-out}
 
 pub running-standing : (X : Crossing) (G : Given) (at left leave enter : List ℕ) → Running X G at left leave enter → Standing X at left
 running-standing X G at left leave enter run = record {

@@ -2,8 +2,8 @@
 use borrow.Author.Tests.{eq-eqb, ne-eqb}
 use native.Mathlib.Omega.{arith}
 use borrow.Author.Needs.{needs}
-use Rattle.running.proofs.gap_behind.Statement.{statement}
-use Rattle.running.proofs.gap_behind.Tie as tie
+use Rattle.entering.proofs.gap_behind.Statement.{statement}
+use Rattle.entering.proofs.gap_behind.Tie as tie
 
 element-copy-out-if1 : tie.Need-element-copy-out-if1
 element-copy-out-if1 c = search needs

@@ -2,11 +2,11 @@
 use Prim.Native.Nat.{_+_, _*_}
 use mathlib.Core.Path.{_≡_, refl, sym, _∙_}
 use native.Mathlib.Omega.{arith}
-use Rattle.running.specs.Times.{clearOf, latest}
-use Rattle.running.proofs.Latest.{latest-none, latest-turn}
+use Rattle.entering.specs.Times.{clearOf, latest}
+use Rattle.entering.proofs.Latest.{latest-none, latest-turn}
 use borrow.Author.Needs.{needs}
-use Rattle.running.proofs.latest_clear.Statement.{statement}
-use Rattle.running.proofs.latest_clear.Tie as tie
+use Rattle.entering.proofs.latest_clear.Statement.{statement}
+use Rattle.entering.proofs.latest_clear.Tie as tie
 
 abbrev Inv-loop : tie.InvT-loop
 Inv-loop lane follow cross leave z c ahead ready time₀ others₀ time others = latest (clearOf lane follow cross leave z c) ahead ready ≡ latest (clearOf lane follow cross leave z c) others time

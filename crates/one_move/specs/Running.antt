@@ -1,4 +1,4 @@
--- Carts under way: what the tables of a run hold, and what moving them further makes of it.
+-- Carts under way: what the tables of a run hold, and what one move makes of it.
 use Prim.Native.Nat.{ℕ, _+_, _*_, _≤_, _<_}
 use mathlib.Core.Path.{_≡_}
 use mathlib.Core.Logic.{_↔_, _⊎_}
@@ -6,9 +6,8 @@ use mathlib.Core.Bool.{true}
 use mathlib.Core.List.{List}
 use lib.ListN.{length, getD, set}
 use Rattle.sets.specs.Member.{has}
-use Rattle.moves.specs.System.{pos, sum}
-use Rattle.moves.specs.Moves.{moved, Permitted}
-use Rattle.moves.specs.Runs.{Stuck}
+use Rattle.moves.specs.System.{pos}
+use Rattle.moves.specs.Moves.{moved}
 use Rattle.moves.specs.Records.{Reached}
 use Rattle.routes.specs.Crossing.{Crossing, steps, zone, stepIn, HasLeft}
 use Rattle.routes.specs.Moves.{system}
@@ -16,7 +15,7 @@ use Rattle.routes.specs.Orders.{NamesOnce, OnlyVisitors}
 use Rattle.times.specs.Times.{Given, leaving, EnteredTimes}
 use Rattle.crossing.specs.Tables.{LeftSet}
 use Rattle.crossing.specs.Sound.{Sound}
-use Rattle.running.specs.Times.{timesOf, AtMost}
+use Rattle.entering.specs.Times.{timesOf, AtMost}
 
 -- cart c joins zone z's set, and no set changes else
 abbrev pub Joins : List ℕ → List ℕ → ℕ → ℕ → Type 0
@@ -56,16 +55,3 @@ module _ (X : Crossing) (G : Given) where
   pub record HasMoved (old at left leave enter : List ℕ) (c : ℕ) : Type 0 where
     pub at-is : at ≡ moved old c
     pub running : Running at left leave enter
-
-  -- cart c has moved on from `old`, `made` moves, as far as it may go
-  pub record Advanced (old at left leave enter : List ℕ) (c made : ℕ) : Type 0 where
-    pub running : Running at left leave enter
-    pub counted : sum at ≡ sum old + made
-    pub none-made : made ≡ 0 → at ≡ old
-    pub held-or-out : ¬ (Permitted (system X) at c)
-
-  -- every cart has moved on in turn, `made` moves in all
-  pub record Swept (old at left leave enter : List ℕ) (made : ℕ) : Type 0 where
-    pub running : Running at left leave enter
-    pub counted : sum at ≡ sum old + made
-    pub none-left : made ≡ 0 → Stuck (system X) at

@@ -11,8 +11,8 @@ use lib.Seq.{getD-set-same, getD-set-other}
 use lib.Dec.{eqb}
 use borrow.Author.Tests.{eqb-true, eq-eqb}
 use Rattle.sets.specs.Member.{has, With}
-use Rattle.running.specs.Times.{AtMost}
-use Rattle.running.specs.Running.{Joins, ZoneLeft}
+use Rattle.entering.specs.Times.{AtMost}
+use Rattle.one_move.specs.Running.{Joins, ZoneLeft}
 
 pub most-stored : (most : ℕ) (table : List ℕ) (x value : ℕ) → AtMost most table → x < length table → value ≤ most → AtMost most (set table x value)
 most-stored most table x value all l h y = go (ℕ-discrete y x)

@@ -1,10 +1,10 @@
 -- Each way out is one kind of move, by the law for it.
 use native.Mathlib.Omega.{arith}
-use Rattle.running.proofs.Latest.{latest-past}
-use Rattle.running.proofs.Steps.{within, gaps-most, first-zone, first-moved, left-zone, left-times, next-zone, next-moved, out-moved}
+use Rattle.entering.proofs.Latest.{latest-past}
+use Rattle.one_move.proofs.Steps.{within, gaps-most, first-zone, first-moved, left-zone, left-times, next-zone, next-moved, out-moved}
 use borrow.Author.Needs.{needs}
-use Rattle.running.proofs.make_move.Statement.{statement}
-use Rattle.running.proofs.make_move.Tie as tie
+use Rattle.one_move.proofs.make_move.Statement.{statement}
+use Rattle.one_move.proofs.make_move.Tie as tie
 
 element-copy-out-p : tie.Need-element-copy-out-p
 element-copy-out-p c = search needs

@@ -11,7 +11,7 @@ use Rattle.sets.specs.Member.{has, Lowest, Rest}
 use Rattle.sets.proofs.Laws.{has-none}
 use Rattle.times.specs.Times.{largest}
 use Rattle.times.proofs.Largest.{largest-most, largest-least}
-use Rattle.running.specs.Times.{latest}
+use Rattle.entering.specs.Times.{latest}
 
 module _ (rule : ℕ → ℕ) where
   -- the members' times

@@ -31,7 +31,7 @@ module _ (sheet : Sheet) (orders : Orders) where
 
   -- "Make permitted moves until none is left": the moves made, and the state reached
   unfoldable pub movesMade : List ℕ
-  movesMade = greedy (sum (planSystem .out)) (start planSystem)
+  movesMade = greedy planSystem (sum (planSystem .out)) (start planSystem)
 
   abbrev pub atEnd : List ℕ
   atEnd = end planSystem (start planSystem)

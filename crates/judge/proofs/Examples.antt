@@ -39,3 +39,23 @@ planB = 0x01 ∷ 0x00 ∷ 0x0A ∷ 0x02 ∷ 0x02 ∷ 0x00 ∷ 0x01 ∷ 0x02 ∷ 
 judged-A : judge sheetS planA 128 ≡ record { outcome = done; finish = 4500; moves = 6; ring = noRing }
 unfolding judge isOut movesMade lockedRing enteringTime timeWords lowestStuck ringFrom lowest isPermitted greedy end put workedOut leastFrom between ringFirst ringRest allBelow placeOf isAhead firstOf largest entering finish givenOf ordersOf sheetChecks zoneChecks stepChecks cartChecks laneChecks firstFailing fieldChecks value each entries anyBelow countBelow cartAt sheetOf countAt planChecks listChecks planCartChecks planLaneChecks
 judged-A = refl
+
+-- the times stand at words 0, 1, 8 and 9
+times-A : wordsAfter sheetS planA (replicate 129 7) ≡ (0 ∷ 1100 ∷ replicate 6 0) ++ (2400 ∷ 3500 ∷ replicate 118 0) ++ (7 ∷ [])
+unfolding wordsAfter isOut movesMade lockedRing enteringTime timeWords lowestStuck ringFrom lowest isPermitted greedy end put workedOut leastFrom between ringFirst ringRest allBelow placeOf isAhead firstOf largest entering finish givenOf ordersOf sheetChecks zoneChecks stepChecks cartChecks laneChecks firstFailing fieldChecks value each entries anyBelow countBelow cartAt sheetOf countAt planChecks listChecks planCartChecks planLaneChecks
+times-A = refl
+
+-- 22 at 0: cart 0 waits for zone 1, cart 1 for zone 0
+locked-B : judge sheetS planB 128 ≡ notJudged (refused 22 0) (record { length = 2; cart = 0 ∷ 1 ∷ replicate 14 0; zone = 1 ∷ 0 ∷ replicate 14 0 })
+unfolding judge isOut movesMade lockedRing enteringTime timeWords lowestStuck ringFrom lowest isPermitted greedy end put workedOut leastFrom between ringFirst ringRest allBelow placeOf isAhead firstOf largest entering finish givenOf ordersOf sheetChecks zoneChecks stepChecks cartChecks laneChecks firstFailing fieldChecks value each entries anyBelow countBelow cartAt sheetOf countAt planChecks listChecks planCartChecks planLaneChecks
+locked-B = refl
+
+-- and nothing is written
+untouched-B : wordsAfter sheetS planB (replicate 129 7) ≡ replicate 129 7
+unfolding wordsAfter isOut movesMade lockedRing enteringTime timeWords lowestStuck ringFrom lowest isPermitted greedy end put workedOut leastFrom between ringFirst ringRest allBelow placeOf isAhead firstOf largest entering finish givenOf ordersOf sheetChecks zoneChecks stepChecks cartChecks laneChecks firstFailing fieldChecks value each entries anyBelow countBelow cartAt sheetOf countAt planChecks listChecks planCartChecks planLaneChecks
+untouched-B = refl
+
+-- 127 words are too few
+short-A : judge sheetS planA 127 ≡ notJudged (refused 28 0) noRing
+unfolding judge isOut movesMade lockedRing enteringTime timeWords lowestStuck ringFrom lowest isPermitted greedy end put workedOut leastFrom between ringFirst ringRest allBelow placeOf isAhead firstOf largest entering finish givenOf ordersOf sheetChecks zoneChecks stepChecks cartChecks laneChecks firstFailing fieldChecks value each entries anyBelow countBelow cartAt sheetOf countAt planChecks listChecks planCartChecks planLaneChecks
+short-A = refl

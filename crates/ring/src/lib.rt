@@ -1,5 +1,10 @@
+use sets::carts;
 ghost use mathlib.Core.Path.{_≡_};
+ghost use Prim.Native.Nat.{_≤_, _<_};
+ghost use lib.ListN.{getD};
+ghost use Rattle.moves.specs.Rings.{follow, leastFrom};
 ghost use Rattle.ring.specs.Ring.{noRing};
+ghost use Rattle.ring.specs.Tables.{wantedIn, firstNotLeft, Listable, ByTable, byTable};
 
 // The carts that wait for each other in a circle, begun at the lowest, each with the zone that it wants. Unused entries are 0.
 pub struct Ring {
@@ -17,4 +22,64 @@ pub fn no_ring() -> Ring
         cart: [0u8; 16],
         zone: [0u8; 16],
     }
+}
+
+// The zone that cart c wants at its position; 0 where it wants none.
+fn wanted_zone<'a>(steps: &'a [u8; 16], zone: &'a [u8; 128], at: &[u8; 16], c: usize) -> usize
+    requires { ⌜ (c < 16) × (getD (now steps) c 0 ≤ 8) ⌝ }
+    ensures { λ r. ⌜ r ≡ wantedIn (now (steps .entry)) (now (zone .entry)) (now (at .entry)) c ⌝ }
+{
+    if at[c] < steps[c] {
+        return zone[8 * c + at[c] as usize] as usize;
+    }
+    0
+}
+
+// The first cart in zone z's list which has not left it.
+fn first_not_left<'a>(count: &'a [u8; 24], list: &'a [u8; 384], left: &[u16; 24], z: usize) -> usize
+    requires { ⌜ (z < 24) × Listable (now count) (now list) z ⌝ }
+    ensures { λ r. ⌜ (r ≡ firstNotLeft (now (count .entry)) (now (list .entry)) (now (left .entry)) z) × (r < 16) ⌝ }
+{
+    let n = count[z] as usize;
+    let mut k = 0;
+    while k < n {
+        let d = list[16 * z + k] as usize;
+        if !carts::has(left[z], d) {
+            return d;
+        }
+        k += 1;
+    }
+    0
+}
+
+// Where pointing leads from cart c in 16 steps: past every cart that does not repeat.
+fn follow_on(to: &[u8; 16], c: usize) -> usize
+    requires { ⌜ (c < 16) × ByTable (now to) ⌝ }
+    ensures { λ r. ⌜ (r ≡ follow (byTable (now (to .entry))) 16 c) × (r < 16) ⌝ }
+{
+    let mut d = c;
+    let mut k = 0;
+    while k < 16 {
+        d = to[d] as usize;
+        k += 1;
+    }
+    d
+}
+
+// The lowest of cart c and the 16 carts that follow it.
+fn least_from(to: &[u8; 16], c: usize) -> usize
+    requires { ⌜ (c < 16) × ByTable (now to) ⌝ }
+    ensures { λ r. ⌜ (r ≡ leastFrom (byTable (now (to .entry))) 16 c) × (r < 16) ⌝ }
+{
+    let mut least = c;
+    let mut d = c;
+    let mut k = 0;
+    while k < 16 {
+        d = to[d] as usize;
+        if d < least {
+            least = d;
+        }
+        k += 1;
+    }
+    least
 }

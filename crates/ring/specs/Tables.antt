@@ -1,0 +1,32 @@
+-- Pointing as tables tell it: positions, zones' lists, and for each zone the set of the carts that have left it.
+use Prim.Native.Nat.{ℕ, _+_, _*_, _≤_, _<_}
+use mathlib.Core.Bool.{not}
+use mathlib.Core.List.{List}
+use lib.ListN.{getD}
+use lib.Dec.{ltb}
+use Rattle.words.specs.Lists.{pick, entries}
+use Rattle.sets.specs.Member.{has}
+use Rattle.routes.specs.Lists.{firstOf}
+
+-- the zone that cart c wants at its position; 0 where it wants none
+abbrev pub wantedIn : List ℕ → List ℕ → List ℕ → ℕ → ℕ
+wantedIn steps zone at c = pick (ltb (getD at c 0) (getD steps c 0)) (getD zone (8 * c + getD at c 0) 0) 0
+
+-- zone z's list, of at most 16 carts
+abbrev pub listIn : List ℕ → List ℕ → ℕ → List ℕ
+listIn count list z = entries (getD count z 0) 0 λ k. getD list (16 * z + k) 0
+
+pub record Listable (count list : List ℕ) (z : ℕ) : Type 0 where
+  pub few : getD count z 0 ≤ 16
+  pub cart : (k : ℕ) → k < getD count z 0 → getD list (16 * z + k) 0 < 16
+
+-- "the first cart in that zone's list which hasn't left it"
+abbrev pub firstNotLeft : List ℕ → List ℕ → List ℕ → ℕ → ℕ
+firstNotLeft count list left z = firstOf (λ d. not (has (getD left z 0) d)) (listIn count list z)
+
+-- a table of 16 carts, each with the cart that it points to
+abbrev pub byTable : List ℕ → ℕ → ℕ
+byTable to c = getD to c 0
+
+abbrev pub ByTable : List ℕ → Type 0
+ByTable to = (c : ℕ) → byTable to c < 16

@@ -26,7 +26,7 @@ pub fn no_ring() -> Ring
 
 // The zone that cart c wants at its position; 0 where it wants none.
 fn wanted_zone<'a>(steps: &'a [u8; 16], zone: &'a [u8; 128], at: &[u8; 16], c: usize) -> usize
-    requires { ⌜ (c < 16) × (getD (now steps) c 0 ≤ 8) ⌝ }
+    requires { ⌜ (c < 16) × (getD (now steps) c 0 ≤ 8) × (wantedIn (now steps) (now zone) (now at) c < 24) ⌝ }
     ensures { λ r. ⌜ r ≡ wantedIn (now (steps .entry)) (now (zone .entry)) (now (at .entry)) c ⌝ }
 {
     if at[c] < steps[c] {
@@ -58,7 +58,7 @@ fn follow_on(to: &[u8; 16], c: usize) -> usize
     ensures { λ r. ⌜ (r ≡ follow (byTable (now (to .entry))) 16 c) × (r < 16) ⌝ }
 {
     let mut d = c;
-    let mut k = 0;
+    let mut k: usize = 0;
     while k < 16 {
         d = to[d] as usize;
         k += 1;
@@ -73,7 +73,7 @@ fn least_from(to: &[u8; 16], c: usize) -> usize
 {
     let mut least = c;
     let mut d = c;
-    let mut k = 0;
+    let mut k: usize = 0;
     while k < 16 {
         d = to[d] as usize;
         if d < least {

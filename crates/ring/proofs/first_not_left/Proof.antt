@@ -1,75 +1,68 @@
+-- The loop keeps what the rest of the list says.
+use Prim.Native.Nat.{_+_, _*_, _-_, _≤_, _<_}
+use mathlib.Core.Path.{_≡_, refl, sym, ap, _∙_}
+use mathlib.Core.Bool.{not}
+use native.Mathlib.Omega.{arith}
+use lib.ListN.{getD}
+use Rattle.words.specs.Lists.{entries}
+use Rattle.sets.specs.Member.{has}
+use Rattle.routes.specs.Lists.{firstOf}
+use Rattle.ring.specs.Tables.{firstNotLeft}
+use Rattle.ring.proofs.Following.{first-start, first-here, first-later, first-none}
 use borrow.Author.Needs.{needs}
 use Rattle.ring.proofs.first_not_left.Statement.{statement}
 use Rattle.ring.proofs.first_not_left.Tie as tie
-use Rattle.ring.proofs.first_not_left.Reads as reads
-use Rattle.ring.proofs.first_not_left.Lts as lts
-use Rattle.sets.proofs.carts.has.Reads as has-reads
 
 abbrev Inv-loop : tie.InvT-loop
-Inv-loop count list left z n k₀ k = ?
+Inv-loop count list left z n k₀ k = (k ≤ n) × (firstNotLeft count list left z ≡ firstOf (λ d. not (has (getD left z 0) d)) (entries (n - k) k λ j. getD list (16 * z + j) 0))
 
 abbrev μ-loop : tie.MeasureT-loop
-μ-loop count list left z n k₀ k = ?
+μ-loop count list left z n k₀ k = n - k
 
--- src/lib.rt:43:13
 element-copy-out-n : tie.Need-element-copy-out-n Inv-loop μ-loop
 element-copy-out-n c = search needs
 
--- src/lib.rt:43:13
 cast-n : tie.Need-cast-n Inv-loop μ-loop
-cast-n c = search needs
+cast-n c = omega (arith, c .before .pre .1 .few)
 
--- src/lib.rt:45:5
 loop-holds : tie.Need-loop-holds Inv-loop μ-loop
-loop-holds c = search needs
+loop-holds c = (omega arith, first-start _ _ _ 0 refl)
 
--- src/lib.rt:46:22
 mul-d : tie.Need-mul-d Inv-loop μ-loop
-mul-d c = search needs
+mul-d c = omega (arith, c .before .before .before .pre .0, c .before .before .before .pre .1 .few, c .loop-test .taken)
 
--- src/lib.rt:46:22
 add-d : tie.Need-add-d Inv-loop μ-loop
-add-d c = search needs
+add-d c = omega (arith, c .before .before .before .pre .0, c .before .before .before .pre .1 .few, c .loop-test .taken)
 
--- src/lib.rt:46:17
 element-copy-out-d : tie.Need-element-copy-out-d Inv-loop μ-loop
-element-copy-out-d c = search needs
+element-copy-out-d c = omega (arith, c .before .before .before .pre .0, c .before .before .before .pre .1 .few, c .loop-test .taken)
 
--- src/lib.rt:46:17
 cast-d : tie.Need-cast-d Inv-loop μ-loop
-cast-d c = search needs
+cast-d c = omega (arith, c .before .before .before .before .pre .1 .cart _ (c .before .loop-test .taken))
 
--- src/lib.rt:47:24
 mul-has : tie.Need-mul-has Inv-loop μ-loop
 mul-has c = search needs
 
--- src/lib.rt:47:24
 element-copy-out-has : tie.Need-element-copy-out-has Inv-loop μ-loop
 element-copy-out-has c = search needs
 
--- src/lib.rt:47:13
 has-requires : tie.Need-has-requires Inv-loop μ-loop
-has-requires c κs = search needs
+has-requires c κs = c .before .before .before .before .before .pre .1 .cart _ (c .before .before .loop-test .taken)
 
--- src/lib.rt:48:13
 returns : tie.Need-returns Inv-loop μ-loop
-returns c = search needs
+returns c = (sym (c .before .before .before .before .before .loop .inv .1 ∙ first-here _ _ _ _ (c .before .before .before .before .loop-test .taken) (ap not (sym (c .before .has .ensures)) ∙ c .if1 .taken)), c .before .before .before .before .before .before .before .pre .1 .cart _ (c .before .before .before .before .loop-test .taken))
 
--- src/lib.rt:50:9
 add-k : tie.Need-add-k Inv-loop μ-loop
 add-k c = search needs
 
--- src/lib.rt:45:5
 loop-less : tie.Need-loop-less Inv-loop μ-loop
 loop-less c = search needs
 
--- src/lib.rt:45:5
 loop-again : tie.Need-loop-again Inv-loop μ-loop
-loop-again c = search needs
+loop-again c = (omega (arith, c .before .before .before .before .loop-test .taken), c .before .before .before .before .before .loop .inv .1 ∙ first-later _ _ _ _ (c .before .before .before .before .loop-test .taken) (ap not (sym (c .before .has .ensures)) ∙ c .if1 .left))
 
--- src/lib.rt:39:1
 returns-2 : tie.Need-returns-2 Inv-loop μ-loop
-returns-2 c = search needs
+returns-2 c = (sym (c .before .loop .inv .1 ∙ first-none _ _ _ _ (c .loop-test .left)), omega arith)
 
 pub first-not-left-spec : {M : Type 1} → statement M
 first-not-left-spec =

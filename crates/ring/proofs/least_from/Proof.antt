@@ -1,42 +1,40 @@
+-- The loop keeps the lowest cart passed, and what is left to pass.
+use Prim.Native.Nat.{_-_, _≤_, _<_, min}
+use mathlib.Core.Path.{_≡_, refl, sym, ap, _∙_}
+use native.Mathlib.Omega.{arith}
+use Rattle.moves.specs.Rings.{leastFrom}
+use Rattle.ring.specs.Tables.{byTable}
+use Rattle.ring.proofs.Following.{least-start, least-turn, least-end}
 use borrow.Author.Needs.{needs}
 use Rattle.ring.proofs.least_from.Statement.{statement}
 use Rattle.ring.proofs.least_from.Tie as tie
-use Rattle.ring.proofs.least_from.Reads as reads
-use Rattle.ring.proofs.least_from.Lts as lts
 
 abbrev Inv-loop : tie.InvT-loop
-Inv-loop to c least₀ d₀ k₀ least d k = ?
+Inv-loop to c least₀ d₀ k₀ least d k = (k ≤ 16) × (leastFrom (byTable to) 16 c ≡ min least (leastFrom (byTable to) (16 - k) d)) × (least ≤ d) × (d < 16)
 
 abbrev μ-loop : tie.MeasureT-loop
-μ-loop to c least₀ d₀ k₀ least d k = ?
+μ-loop to c least₀ d₀ k₀ least d k = 16 - k
 
--- src/lib.rt:77:5
 loop-holds : tie.Need-loop-holds Inv-loop μ-loop
-loop-holds c = search needs
+loop-holds c = (omega arith, least-start _ 16 _, omega arith, c .pre .0)
 
--- src/lib.rt:78:13
 element-copy-out-d : tie.Need-element-copy-out-d Inv-loop μ-loop
-element-copy-out-d c = search needs
+element-copy-out-d c = omega (arith, c .before .loop .inv .3)
 
--- src/lib.rt:78:13
 cast-d : tie.Need-cast-d Inv-loop μ-loop
-cast-d c = search needs
+cast-d c = omega (arith, c .before .before .before .pre .1 (c .before .before .loop .d))
 
--- src/lib.rt:82:9
 add-k : tie.Need-add-k Inv-loop μ-loop
 add-k c = search needs
 
--- src/lib.rt:77:5
 loop-less : tie.Need-loop-less Inv-loop μ-loop
 loop-less c = search needs
 
--- src/lib.rt:77:5
 loop-again : tie.Need-loop-again Inv-loop μ-loop
-loop-again c = search needs
+loop-again c = ?
 
--- src/lib.rt:70:1
 returns : tie.Need-returns Inv-loop μ-loop
-returns c = search needs
+returns c = (sym (c .before .loop .inv .1 ∙ least-end _ 16 (c .before .loop .k) _ _ (c .loop-test .left) (c .before .loop .inv .2)), omega (arith, c .before .loop .inv .2, c .before .loop .inv .3))
 
 pub least-from-spec : {M : Type 1} → statement M
 least-from-spec =

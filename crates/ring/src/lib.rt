@@ -1,6 +1,6 @@
 use sets::carts;
 ghost use mathlib.Core.Path.{_≡_};
-ghost use Prim.Native.Nat.{_≤_, _<_};
+ghost use Prim.Native.Nat.{_≤_, _<_, min};
 ghost use lib.ListN.{getD};
 ghost use Rattle.moves.specs.Rings.{follow, leastFrom};
 ghost use Rattle.ring.specs.Ring.{noRing};
@@ -66,6 +66,13 @@ fn follow_on(to: &[u8; 16], c: usize) -> usize
     d
 }
 
+// The lower of two carts.
+fn lower(a: usize, b: usize) -> usize
+    ensures { λ r. ⌜ r ≡ min a b ⌝ }
+{
+    if b < a { b } else { a }
+}
+
 // The lowest of cart c and the 16 carts that follow it.
 fn least_from(to: &[u8; 16], c: usize) -> usize
     requires { ⌜ (c < 16) × ByTable (now to) ⌝ }
@@ -76,9 +83,7 @@ fn least_from(to: &[u8; 16], c: usize) -> usize
     let mut k: usize = 0;
     while k < 16 {
         d = to[d] as usize;
-        if d < least {
-            least = d;
-        }
+        least = lower(least, d);
         k += 1;
     }
     least

@@ -24,6 +24,9 @@ element-copy-out-d c = omega (arith, c .before .loop .inv .3)
 cast-d : tie.Need-cast-d Inv-loop μ-loop
 cast-d c = omega (arith, c .before .before .before .pre .1 (c .before .before .loop .d))
 
+lower-requires : tie.Need-lower-requires Inv-loop μ-loop
+lower-requires c κs = search needs
+
 add-k : tie.Need-add-k Inv-loop μ-loop
 add-k c = search needs
 
@@ -31,7 +34,7 @@ loop-less : tie.Need-loop-less Inv-loop μ-loop
 loop-less c = search needs
 
 loop-again : tie.Need-loop-again Inv-loop μ-loop
-loop-again c = ?
+loop-again c = (omega (arith, c .before .before .loop-test .taken), rw (c .lower .ensures) (c .before .before .before .loop .inv .1 ∙ least-turn _ 16 (c .before .before .before .loop .k) _ _ (c .before .before .loop-test .taken) (c .before .before .before .loop .inv .2)), omega (arith, c .lower .ensures), c .before .before .before .before .pre .1 (c .before .before .before .loop .d))
 
 returns : tie.Need-returns Inv-loop μ-loop
 returns c = (sym (c .before .loop .inv .1 ∙ least-end _ 16 (c .before .loop .k) _ _ (c .loop-test .left) (c .before .loop .inv .2)), omega (arith, c .before .loop .inv .2, c .before .loop .inv .3))
@@ -45,6 +48,7 @@ least-from-spec =
     loop-holds
     element-copy-out-d
     cast-d
+    lower-requires
     add-k
     loop-less
     loop-again

@@ -159,9 +159,11 @@ module _ (X : Crossing) (G : Given) where
   settling-start lanes left leave enter run = record { running = run; counted = sym (zeros-sum lanes); none-left = λ e. absurd (omega (arith, e)) }
 
   module _ (at left leave enter : List ℕ) (made last : ℕ) (on : Settling at left leave enter made last) where
-    pub settling-end : last ≤ 0 → SettlesAs X G at enter made
+    pub settling-end : last ≤ 0 → SettlesAs X G at left enter made
     settling-end done = record {
       at-end = end-unique S (start S) at (start-in-range S) (on .running .reached) (on .none-left (omega arith));
+      left-24 = on .running .left-24;
+      left-is = on .running .left-is;
       counted = on .counted;
       enter-128 = on .running .enter-128;
       enter-is = on .running .enter-is;

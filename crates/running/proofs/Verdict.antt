@@ -24,7 +24,7 @@ use Rattle.times.proofs.Times.{entered-least}
 use Rattle.entering.specs.Times.{timesOf}
 use Rattle.running.specs.Settled.{SettlesAs}
 
-module _ (X : Crossing) (G : Given) (at enter : List ℕ) (made : ℕ) (settled : SettlesAs X G at enter made) where
+module _ (X : Crossing) (G : Given) (at left enter : List ℕ) (made : ℕ) (settled : SettlesAs X G at left enter made) where
   abbrev S : System
   S = system X
 
@@ -44,7 +44,7 @@ module _ (X : Crossing) (G : Given) (at enter : List ℕ) (made : ℕ) (settled 
   settled-times out c s h = settled .enter-is c s (omega (arith, ap (λ (t : List ℕ). pos t c) out, out-steps X c s h)) h
 
   -- no second answer fits
-  module _ (only : OnlyVisitors X) (at′ enter′ : List ℕ) (made′ : ℕ) (other : SettlesAs X G at′ enter′ made′) where
+  module _ (only : OnlyVisitors X) (at′ left′ enter′ : List ℕ) (made′ : ℕ) (other : SettlesAs X G at′ left′ enter′ made′) where
     pub settled-at : at ≡ at′
     settled-at = settled .at-end ∙ sym (other .at-end)
 

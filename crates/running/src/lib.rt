@@ -95,9 +95,10 @@ fn sweep<'a>(
     made
 }
 
-// Where the carts stand when no permitted move is left, and how many moves they made.
+// Where the carts stand when no permitted move is left, which have left each zone, and how many moves they made.
 pub struct Settled {
     pub at: [u8; 16],
+    pub left: [u16; 24],
     pub made: usize,
 }
 
@@ -115,7 +116,7 @@ pub fn settle<'a>(
     enter: &mut [u32; 128],
 ) -> Settled
     requires { ⌜ Sound (crossingOf (now steps) (now zone) (now ahead)) (givenOf (now lane) (now arrival) (now passing) (now travel) (now follow) (now cross)) × (now enter ≡ replicate 128 0) ⌝ }
-    ensures { λ r. ⌜ SettlesAs (crossingOf (now (steps .entry)) (now (zone .entry)) (now (ahead .entry))) (givenOf (now (lane .entry)) (now (arrival .entry)) (now (passing .entry)) (now (travel .entry)) (now (follow .entry)) (now (cross .entry))) (r .at) (now (enter .exit)) (r .made) ⌝ }
+    ensures { λ r. ⌜ SettlesAs (crossingOf (now (steps .entry)) (now (zone .entry)) (now (ahead .entry))) (givenOf (now (lane .entry)) (now (arrival .entry)) (now (passing .entry)) (now (travel .entry)) (now (follow .entry)) (now (cross .entry))) (r .at) (r .left) (now (enter .exit)) (r .made) ⌝ }
 {
     let mut at = [0u8; 16];
     let mut left = [0u16; 24];
@@ -140,5 +141,5 @@ pub fn settle<'a>(
         );
         made += moved;
     }
-    Settled { at, made }
+    Settled { at, left, made }
 }

@@ -12,6 +12,10 @@ use Rattle.routes.specs.Lists.{firstOf}
 abbrev pub wantedIn : List ℕ → List ℕ → List ℕ → ℕ → ℕ
 wantedIn steps zone at c = pick (ltb (getD at c 0) (getD steps c 0)) (getD zone (8 * c + getD at c 0) 0) 0
 
+pub record Wanting (steps zone at : List ℕ) : Type 0 where
+  pub steps-most : (c : ℕ) → c < 16 → getD steps c 0 ≤ 8
+  pub zone-below : (c : ℕ) → c < 16 → wantedIn steps zone at c < 24
+
 -- zone z's list, of at most 16 carts
 abbrev pub listIn : List ℕ → List ℕ → ℕ → List ℕ
 listIn count list z = entries (getD count z 0) 0 λ k. getD list (16 * z + k) 0
@@ -19,6 +23,12 @@ listIn count list z = entries (getD count z 0) 0 λ k. getD list (16 * z + k) 0
 pub record Listable (count list : List ℕ) (z : ℕ) : Type 0 where
   pub few : getD count z 0 ≤ 16
   pub cart : (k : ℕ) → k < getD count z 0 → getD list (16 * z + k) 0 < 16
+
+abbrev pub AllListable : List ℕ → List ℕ → Type 0
+AllListable count list = (z : ℕ) → z < 24 → Listable count list z
+
+abbrev pub InZones : List ℕ → Type 0
+InZones wanted = (c : ℕ) → getD wanted c 0 < 24
 
 -- "the first cart in that zone's list which hasn't left it"
 abbrev pub firstNotLeft : List ℕ → List ℕ → List ℕ → ℕ → ℕ

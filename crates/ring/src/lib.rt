@@ -4,7 +4,8 @@ ghost use Prim.Native.Nat.{_≤_, _<_, min};
 ghost use lib.ListN.{getD};
 ghost use Rattle.moves.specs.Rings.{follow, leastFrom};
 ghost use Rattle.ring.specs.Ring.{noRing};
-ghost use Rattle.ring.specs.Tables.{wantedIn, firstNotLeft, Listable, ByTable, byTable};
+ghost use Rattle.words.specs.Lists.{entries};
+ghost use Rattle.ring.specs.Tables.{wantedIn, Wanting, firstNotLeft, Listable, AllListable, InZones, ByTable, byTable};
 
 // The carts that wait for each other in a circle, begun at the lowest, each with the zone that it wants. Unused entries are 0.
 pub struct Ring {
@@ -87,4 +88,37 @@ fn least_from(to: &[u8; 16], c: usize) -> usize
         k += 1;
     }
     least
+}
+
+// The zone that each cart wants.
+fn wanted_zones<'a>(steps: &'a [u8; 16], zone: &'a [u8; 128], at: &[u8; 16]) -> [u8; 16]
+    requires { ⌜ Wanting (now steps) (now zone) (now at) ⌝ }
+    ensures { λ r. ⌜ r ≡ entries 16 0 (wantedIn (now (steps .entry)) (now (zone .entry)) (now (at .entry))) ⌝ }
+{
+    let mut wanted = [0u8; 16];
+    let mut c = 0;
+    while c < 16 {
+        wanted[c] = wanted_zone(steps, zone, at, c) as u8;
+        c += 1;
+    }
+    wanted
+}
+
+// The cart that each cart points to: the first in the wanted zone's list which has not left it.
+fn pointing<'a>(
+    count: &'a [u8; 24],
+    list: &'a [u8; 384],
+    left: &[u16; 24],
+    wanted: &[u8; 16],
+) -> [u8; 16]
+    requires { ⌜ AllListable (now count) (now list) × InZones (now wanted) ⌝ }
+    ensures { λ r. ⌜ (r ≡ entries 16 0 (λ c. firstNotLeft (now (count .entry)) (now (list .entry)) (now (left .entry)) (getD (now (wanted .entry)) c 0))) × ByTable r ⌝ }
+{
+    let mut to = [0u8; 16];
+    let mut c = 0;
+    while c < 16 {
+        to[c] = first_not_left(count, list, left, wanted[c] as usize) as u8;
+        c += 1;
+    }
+    to
 }

@@ -52,3 +52,8 @@ module _ (rule : ℕ → ℕ) where
       go : Dec (x < 16) → getD (entries 16 0 rule) x 0 < most
       go (yes l) = rw (at-entry 16 rule x l) (all x (omega (arith, e)))
       go (no n) = rw (List·getD-eq-default (entries 16 0 rule) 0 {n = x} (omega (arith, n, length-entries 16 0 rule))) some
+
+  pub filled-below : (most k : ℕ) (table : List ℕ) → k ≡ 16 → 0 < most → table ≡ filledTo k → Below most k → (table ≡ entries 16 0 rule) × ((x : ℕ) → getD table x 0 < most)
+  filled-below most k table e some is all =
+      let whole : table ≡ entries 16 0 rule = is ∙ filled-all k e in
+      (whole, rw whole (below-all most k e some all))

@@ -4,7 +4,7 @@ use mathlib.Core.Path.{_≡_, _∙_}
 use native.Mathlib.Omega.{arith}
 use lib.ListN.{getD}
 use Rattle.ring.specs.Tables.{firstNotLeft, ByTable}
-use Rattle.ring.proofs.Filling.{filledTo, filled-none, filled-next, filled-all, Below, below-next, below-all}
+use Rattle.ring.proofs.Filling.{filledTo, filled-none, filled-next, filled-all, Below, below-next, filled-below}
 use borrow.Author.Needs.{needs}
 use Rattle.ring.proofs.pointing.Statement.{statement}
 use Rattle.ring.proofs.pointing.Tie as tie
@@ -22,7 +22,7 @@ element-copy-out-first-not-left : tie.Need-element-copy-out-first-not-left Inv-l
 element-copy-out-first-not-left c = search needs
 
 cast-first-not-left : tie.Need-cast-first-not-left Inv-loop μ-loop
-cast-first-not-left c = search needs
+cast-first-not-left c = omega (arith, c .before .before .before .pre .1 (c .before .before .loop .c))
 
 first-not-left-requires : tie.Need-first-not-left-requires Inv-loop μ-loop
 first-not-left-requires c κs = (c .before .before .before .pre .1 _, c .before .before .before .pre .0 _ (c .before .before .before .pre .1 _))
@@ -43,7 +43,7 @@ loop-again : tie.Need-loop-again Inv-loop μ-loop
 loop-again c = (omega (arith, c .before .before .loop-test .taken), filled-next _ _ _ _ (c .before .before .loop-test .taken) (c .before .before .before .loop .inv .1) (c .first-not-left .ensures .0), below-next _ 16 _ (c .before .before .before .loop .inv .2) (rw (c .first-not-left .ensures .0) at (c .first-not-left .ensures .1)))
 
 returns : tie.Need-returns Inv-loop μ-loop
-returns c = let all = filled-all _ _ (omega (arith, c .before .loop .inv .0, c .loop-test .left)) in (c .before .loop .inv .1 ∙ all, rw (c .before .loop .inv .1, all) (below-all _ 16 _ (omega (arith, c .before .loop .inv .0, c .loop-test .left)) (omega arith) (c .before .loop .inv .2)))
+returns c = filled-below _ 16 _ _ (omega (arith, c .before .loop .inv .0, c .loop-test .left)) (omega arith) (c .before .loop .inv .1) (c .before .loop .inv .2)
 
 pub pointing-spec : {M : Type 1} → statement M
 pointing-spec =

@@ -1,3 +1,4 @@
 pub mod Following
 pub mod Filling
 pub mod Rounds
+pub mod SoFar

@@ -30,16 +30,16 @@ lowestStuck S s = Option·getD (lowest (isNotOut S s) (carts S)) (carts S)
 abbrev pub sixteen : List ℕ → List ℕ
 sixteen list = entries 16 0 λ k. getD list k 0
 
-module _ (routes lists : List (List ℕ)) (s : List ℕ) where
-  -- "Follow from" cart c "until a cart repeats": the repeating carts, the lowest first
-  unfoldable pub ringFrom : ℕ → List ℕ
-  ringFrom c =
-      let n = carts (system (plan routes lists)) in
-      ringFirst (pointsTo routes lists s) n c ∷ ringRest (pointsTo routes lists s) n c
+-- "Follow from" cart c "until a cart repeats": among n carts the repeating ones, the lowest first
+unfoldable pub ringFrom : (ℕ → ℕ) → ℕ → ℕ → List ℕ
+ringFrom to n c = ringFirst to n c ∷ ringRest to n c
 
-  abbrev pub wanted : ℕ → ℕ
-  wanted c = zone (plan routes lists) c (pos s c)
+-- the same "each with its wanted zone"
+abbrev pub ringBy : (ℕ → ℕ) → (ℕ → ℕ) → ℕ → ℕ → Ring
+ringBy to wanted n c = record { length = length (ringFrom to n c); cart = sixteen (ringFrom to n c); zone = sixteen (map wanted (ringFrom to n c)) }
 
-  -- the ring that is come to from cart c
-  abbrev pub ringOf : ℕ → Ring
-  ringOf c = record { length = length (ringFrom c); cart = sixteen (ringFrom c); zone = sixteen (map wanted (ringFrom c)) }
+-- the ring that is come to from cart c where a plan's carts stand at s
+abbrev pub ringOf : List (List ℕ) → List (List ℕ) → List ℕ → ℕ → Ring
+ringOf routes lists s c =
+    let X = plan routes lists in
+    ringBy (pointsTo routes lists s) (λ d. zone X d (pos s d)) (carts (system X)) c

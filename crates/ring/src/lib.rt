@@ -3,7 +3,7 @@ ghost use mathlib.Core.Path.{_≡_};
 ghost use Prim.Native.Nat.{_≤_, _<_, min};
 ghost use lib.ListN.{getD};
 ghost use Rattle.moves.specs.Rings.{follow, leastFrom};
-ghost use Rattle.ring.specs.Ring.{noRing};
+ghost use Rattle.ring.specs.Ring.{noRing, ringBy};
 ghost use Rattle.words.specs.Lists.{entries};
 ghost use Rattle.ring.specs.Tables.{wantedIn, Wanting, firstNotLeft, Listable, AllListable, InZones, ByTable, byTable};
 
@@ -121,4 +121,29 @@ fn pointing<'a>(
         c += 1;
     }
     to
+}
+
+// The ring that pointing comes to from cart c: its lowest cart, then each that follows until the lowest comes again.
+fn ring_by(to: &[u8; 16], wanted: &[u8; 16], c: usize) -> Ring
+    requires { ⌜ (c < 16) × ByTable (now to) ⌝ }
+    ensures { λ r. ⌜ r ≡ ringBy (byTable (now (to .entry))) (byTable (now (wanted .entry))) 16 c ⌝ }
+{
+    let first = least_from(to, follow_on(to, c));
+    let mut cart = [0u8; 16];
+    let mut zone = [0u8; 16];
+    cart[0] = first as u8;
+    zone[0] = wanted[first];
+    let mut n = 1;
+    let mut d = to[first] as usize;
+    while d != first {
+        cart[n] = d as u8;
+        zone[n] = wanted[d];
+        n += 1;
+        d = to[d] as usize;
+    }
+    Ring {
+        length: n,
+        cart,
+        zone,
+    }
 }

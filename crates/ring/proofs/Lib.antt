@@ -2,3 +2,4 @@ pub mod Following
 pub mod Filling
 pub mod Rounds
 pub mod SoFar
+pub mod Same

@@ -34,6 +34,10 @@ InZones wanted = (c : ℕ) → getD wanted c 0 < 24
 abbrev pub firstNotLeft : List ℕ → List ℕ → List ℕ → ℕ → ℕ
 firstNotLeft count list left z = firstOf (λ d. not (has (getD left z 0) d)) (listIn count list z)
 
+-- the cart that cart c points to
+abbrev pub pointIn : List ℕ → List ℕ → List ℕ → List ℕ → List ℕ → List ℕ → ℕ → ℕ
+pointIn steps zone count list at left c = firstNotLeft count list left (wantedIn steps zone at c)
+
 -- a table of 16 carts, each with the cart that it points to
 abbrev pub byTable : List ℕ → ℕ → ℕ
 byTable to c = getD to c 0

@@ -5,7 +5,7 @@ ghost use lib.ListN.{getD};
 ghost use Rattle.moves.specs.Rings.{follow, leastFrom};
 ghost use Rattle.ring.specs.Ring.{noRing, ringBy};
 ghost use Rattle.words.specs.Lists.{entries};
-ghost use Rattle.ring.specs.Tables.{wantedIn, Wanting, firstNotLeft, Listable, AllListable, InZones, ByTable, byTable};
+ghost use Rattle.ring.specs.Tables.{wantedIn, Wanting, pointIn, firstNotLeft, Listable, AllListable, InZones, ByTable, byTable};
 
 // The carts that wait for each other in a circle, begun at the lowest, each with the zone that it wants. Unused entries are 0.
 pub struct Ring {
@@ -146,4 +146,22 @@ fn ring_by(to: &[u8; 16], wanted: &[u8; 16], c: usize) -> Ring
         cart,
         zone,
     }
+}
+
+// The ring that pointing comes to from cart c, where the carts stand and have left zones as the tables say.
+pub fn ring_of<'a>(
+    steps: &'a [u8; 16],
+    zone: &'a [u8; 128],
+    count: &'a [u8; 24],
+    list: &'a [u8; 384],
+    at: &[u8; 16],
+    left: &[u16; 24],
+    c: usize,
+) -> Ring
+    requires { ⌜ Wanting (now steps) (now zone) (now at) × AllListable (now count) (now list) × (c < 16) ⌝ }
+    ensures { λ r. ⌜ r ≡ ringBy (pointIn (now (steps .entry)) (now (zone .entry)) (now (count .entry)) (now (list .entry)) (now (at .entry)) (now (left .entry))) (wantedIn (now (steps .entry)) (now (zone .entry)) (now (at .entry))) 16 c ⌝ }
+{
+    let wanted = wanted_zones(steps, zone, at);
+    let to = pointing(count, list, left, &wanted);
+    ring_by(&to, &wanted, c)
 }

@@ -1,4 +1,4 @@
-"""Reads plans, lists their zones and writes them again as document 01 says, written from that document alone, and makes random ones.
+"""Reads plans, lists their zones and writes them again as document 01 says, in the plainest form, and makes random ones.
 
 `shown` is what our program prints of a plan for a sheet; programs.py compares it with that.
 """

@@ -1,5 +1,5 @@
 #!/usr/bin/env python3
-"""Compares our proved programs with sheets.py and plans.py, which were written from document 01 alone.
+"""Compares our proved programs with sheets.py and plans.py, which follow document 01 in a form of their own.
 
 programs.py sheet FILE     prints what the program sheet_main must print for the sheet in FILE
 programs.py lines FILE..   prints what the program vectors must print for these texts, with a sheet or a sheet and a plan a line

@@ -1,4 +1,4 @@
-"""Reads crossing sheets as document 01 says, written from that document alone, and makes random ones.
+"""Reads crossing sheets as document 01 says, in the plainest form, and makes random ones.
 
 `shown` is what our programs print of a sheet; programs.py compares them with it.
 """

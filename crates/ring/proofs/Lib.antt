@@ -3,3 +3,4 @@ pub mod Filling
 pub mod Rounds
 pub mod SoFar
 pub mod Same
+pub mod Stuck

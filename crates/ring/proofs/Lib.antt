@@ -4,3 +4,4 @@ pub mod Rounds
 pub mod SoFar
 pub mod Same
 pub mod Stuck
+pub mod Lowest

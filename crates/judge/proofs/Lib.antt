@@ -1,1 +1,3 @@
+pub mod Pointing
+pub mod Rings
 pub mod Examples

@@ -3,3 +3,5 @@ pub mod Filling
 pub mod Rounds
 pub mod SoFar
 pub mod Same
+pub mod Stuck
+pub mod Lowest

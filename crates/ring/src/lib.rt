@@ -1,11 +1,13 @@
 use sets::carts;
 ghost use mathlib.Core.Path.{_≡_};
+ghost use mathlib.Core.Logic.{_↔_};
+ghost use mathlib.Core.Bool.{true};
 ghost use Prim.Native.Nat.{_≤_, _<_, min};
 ghost use lib.ListN.{getD};
 ghost use Rattle.moves.specs.Rings.{follow, leastFrom};
 ghost use Rattle.ring.specs.Ring.{noRing, ringBy};
 ghost use Rattle.words.specs.Lists.{entries};
-ghost use Rattle.ring.specs.Tables.{wantedIn, Wanting, pointIn, firstNotLeft, Listable, AllListable, InZones, ByTable, byTable};
+ghost use Rattle.ring.specs.Tables.{NotOutIn, StuckIn, wantedIn, Wanting, pointIn, firstNotLeft, Listable, AllListable, InZones, ByTable, byTable};
 
 // The carts that wait for each other in a circle, begun at the lowest, each with the zone that it wants. Unused entries are 0.
 pub struct Ring {
@@ -164,4 +166,29 @@ pub fn ring_of<'a>(
     let wanted = wanted_zones(steps, zone, at);
     let to = pointing(count, list, left, &wanted);
     ring_by(&to, &wanted, c)
+}
+
+// Whether cart c is not out.
+fn not_out<'a>(steps: &'a [u8; 16], at: &[u8; 16], c: usize) -> bool
+    requires { ⌜ c < 16 ⌝ }
+    ensures { λ r. ⌜ (r ≡ true) ↔ NotOutIn (now (steps .entry)) (now (at .entry)) c ⌝ }
+{
+    if steps[c] == 0 {
+        return false;
+    }
+    at[c] <= steps[c]
+}
+
+// The lowest cart that is not out; 16 where all are.
+pub fn lowest_stuck<'a>(steps: &'a [u8; 16], at: &[u8; 16]) -> usize
+    ensures { λ r. ⌜ StuckIn (now (steps .entry)) (now (at .entry)) r ⌝ }
+{
+    let mut c = 0;
+    while c < 16 {
+        if not_out(steps, at, c) {
+            return c;
+        }
+        c += 1;
+    }
+    c
 }

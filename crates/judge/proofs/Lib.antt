@@ -1,3 +1,5 @@
+pub mod Numbers
+pub mod Verdict
 pub mod Pointing
 pub mod Rings
 pub mod Examples

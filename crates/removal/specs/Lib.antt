@@ -1,0 +1,7 @@
+pub mod Pairs
+pub mod Present
+pub mod Running
+pub mod Spare
+pub mod Cost
+pub mod While
+pub mod Removal

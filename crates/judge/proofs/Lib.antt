@@ -6,4 +6,4 @@ pub mod Pointing
 pub mod Rings
 pub mod Answers
 pub mod Reading
-pub mod Examples
+pub mod Outcomes

@@ -1,8 +1,8 @@
--- `vectors::plans::show_ahead` is safe and ends. The measure is the number of places left.
+-- `show_ahead` is safe and ends. The measure is the number of places left.
 use Prim.Native.Nat.{_-_}
 use borrow.Author.Needs.{needs}
-use Rattle.vectors.proofs.plans.show_ahead.Statement.{statement}
-use Rattle.vectors.proofs.plans.show_ahead.Tie as tie
+use Rattle.plan_text.proofs.show_ahead.Statement.{statement}
+use Rattle.plan_text.proofs.show_ahead.Tie as tie
 
 abbrev Inv-loop : tie.InvT-loop
 Inv-loop ahead sheet x₀ x = Unit {0}

@@ -1,8 +1,8 @@
--- `vectors::plans::put_set` is safe and ends. The measure is the number of carts left.
+-- `put_set` is safe and ends. The measure is the number of carts left.
 use Prim.Native.Nat.{_-_}
 use borrow.Author.Needs.{needs}
-use Rattle.vectors.proofs.plans.put_set.Statement.{statement}
-use Rattle.vectors.proofs.plans.put_set.Tie as tie
+use Rattle.plan_text.proofs.put_set.Statement.{statement}
+use Rattle.plan_text.proofs.put_set.Tie as tie
 
 abbrev Inv-loop : tie.InvT-loop
 Inv-loop set i₀ i = Unit {0}

@@ -1,9 +1,9 @@
--- `vectors::plans::show_room_of` is safe: the first bytes of a longer room are as many as asked for.
+-- `show_room_of` is safe: the first bytes of a longer room are as many as asked for.
 use mathlib.Core.Path.{sym}
 use lib.Seq.{length-take-le}
 use borrow.Author.Needs.{needs}
-use Rattle.vectors.proofs.plans.show_room_of.Statement.{statement}
-use Rattle.vectors.proofs.plans.show_room_of.Tie as tie
+use Rattle.plan_text.proofs.show_room_of.Statement.{statement}
+use Rattle.plan_text.proofs.show_room_of.Tie as tie
 
 array-borrow-prefix-room : tie.Need-array-borrow-prefix-room
 array-borrow-prefix-room c = search needs

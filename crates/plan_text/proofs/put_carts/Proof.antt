@@ -1,9 +1,9 @@
--- `vectors::plans::put_carts` is safe and ends. The measure is what is left of the list.
+-- `put_carts` is safe and ends. The measure is what is left of the list.
 use Prim.Native.Nat.{_-_}
 use lib.ListN.{length}
 use borrow.Author.Needs.{needs}
-use Rattle.vectors.proofs.plans.put_carts.Statement.{statement}
-use Rattle.vectors.proofs.plans.put_carts.Tie as tie
+use Rattle.plan_text.proofs.put_carts.Statement.{statement}
+use Rattle.plan_text.proofs.put_carts.Tie as tie
 
 abbrev Inv-loop : tie.InvT-loop
 Inv-loop list i₀ i = Unit {0}

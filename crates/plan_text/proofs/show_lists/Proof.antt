@@ -1,8 +1,8 @@
--- `vectors::plans::show_lists` is safe and ends. The measure is the number of zones left.
+-- `show_lists` is safe and ends. The measure is the number of zones left.
 use Prim.Native.Nat.{_-_}
 use borrow.Author.Needs.{needs}
-use Rattle.vectors.proofs.plans.show_lists.Statement.{statement}
-use Rattle.vectors.proofs.plans.show_lists.Tie as tie
+use Rattle.plan_text.proofs.show_lists.Statement.{statement}
+use Rattle.plan_text.proofs.show_lists.Tie as tie
 
 abbrev Inv-loop : tie.InvT-loop
 Inv-loop s p zones zone₀ zone = Unit {0}

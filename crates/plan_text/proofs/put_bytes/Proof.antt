@@ -1,9 +1,9 @@
--- `vectors::plans::put_bytes` is safe and ends. The measure is what is left of the bytes.
+-- `put_bytes` is safe and ends. The measure is what is left of the bytes.
 use Prim.Native.Nat.{_-_}
 use lib.ListN.{length}
 use borrow.Author.Needs.{needs}
-use Rattle.vectors.proofs.plans.put_bytes.Statement.{statement}
-use Rattle.vectors.proofs.plans.put_bytes.Tie as tie
+use Rattle.plan_text.proofs.put_bytes.Statement.{statement}
+use Rattle.plan_text.proofs.put_bytes.Tie as tie
 
 abbrev Inv-loop : tie.InvT-loop
 Inv-loop bytes i₀ i = Unit {0}

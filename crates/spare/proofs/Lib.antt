@@ -5,3 +5,5 @@ pub mod Behind
 pub mod Rule
 pub mod Back
 pub mod Same
+pub mod Told
+pub mod Ready

@@ -1,2 +1,4 @@
 pub mod Examples
 pub mod While
+pub mod Back
+pub mod Spare

@@ -1,4 +1,5 @@
 pub mod Pairs
+pub mod Plannable
 pub mod Present
 pub mod Running
 pub mod Spare

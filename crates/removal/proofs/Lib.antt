@@ -5,3 +5,5 @@ pub mod Spare
 pub mod Tests
 pub mod Counts
 pub mod Ranks
+pub mod Running
+pub mod Pairs

@@ -7,3 +7,5 @@ pub mod Counts
 pub mod Ranks
 pub mod Running
 pub mod Pairs
+pub mod Present
+pub mod Starts

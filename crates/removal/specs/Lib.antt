@@ -2,6 +2,7 @@ pub mod Pairs
 pub mod Plannable
 pub mod Present
 pub mod Running
+pub mod Solved
 pub mod Spare
 pub mod Cost
 pub mod While

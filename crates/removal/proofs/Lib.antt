@@ -9,3 +9,5 @@ pub mod Running
 pub mod Pairs
 pub mod Present
 pub mod Starts
+pub mod Each
+pub mod Candidates

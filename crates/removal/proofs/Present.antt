@@ -21,26 +21,26 @@ use Rattle.removal.proofs.Spare.{BothVisit}
 fails : (b : Bool) → (b ≡ true → ⊥) → b ≡ false
 fails b n = not-eq-not {b = false} .0 n
 
+pub group-says : (low high r : ℕ) → (inGroup low high r ≡ true) ↔ ((low ≤ r) × (r < high))
+group-says low high r = and-says _ _ (leb-says low r) (ltb-says r high)
+
 module _ (low high r q : ℕ) (this other : Bool) where
   pub pair-below : r < low → q < low → pairOrder low high r q this other ≡ (this || (not other && ltb r q))
   unfolding pairOrder
   pair-below h k = rw (lt-ltb r low h, lt-ltb q low k)
 
-  group-says : (k : ℕ) → (inGroup low high k ≡ true) ↔ ((low ≤ k) × (k < high))
-  group-says k = and-says _ _ (leb-says low k) (ltb-says k high)
-
   below-fails : ¬ ((r < low) × (q < low)) → (ltb r low && ltb q low) ≡ false
   below-fails n = fails _ (λ e. n (and-says _ _ (ltb-says r low) (ltb-says q low) .0 e))
 
   group-fails : ¬ (BothIn low high r q) → (inGroup low high r && inGroup low high q) ≡ false
-  group-fails n = fails _ (λ e. n (and-says _ _ (group-says r) (group-says q) .0 e))
+  group-fails n = fails _ (λ e. n (and-says _ _ (group-says low high r) (group-says low high q) .0 e))
 
   above-fails : ¬ ((high ≤ r) × (high ≤ q)) → (leb high r && leb high q) ≡ false
   above-fails n = fails _ (λ e. n (and-says _ _ (leb-says high r) (leb-says high q) .0 e))
 
   pub pair-inside : BothIn low high r q → pairOrder low high r q this other ≡ this
   unfolding pairOrder
-  pair-inside (a, b) = rw (below-fails (λ x. omega arith), group-says r .1 a, group-says q .1 b)
+  pair-inside (a, b) = rw (below-fails (λ x. omega arith), group-says low high r .1 a, group-says low high q .1 b)
 
   pub pair-above : low ≤ high → high ≤ r → high ≤ q → pairOrder low high r q this other ≡ false
   unfolding pairOrder

@@ -11,3 +11,4 @@ pub mod Present
 pub mod Starts
 pub mod Each
 pub mod Candidates
+pub mod Taken

@@ -12,3 +12,4 @@ pub mod Starts
 pub mod Each
 pub mod Candidates
 pub mod Taken
+pub mod Turns

@@ -13,3 +13,4 @@ pub mod Each
 pub mod Candidates
 pub mod Taken
 pub mod Turns
+pub mod Trial

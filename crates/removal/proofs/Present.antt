@@ -4,6 +4,7 @@ use mathlib.Core.Path.{_≡_, refl, sym, ap₂, _∙_}
 use mathlib.Core.Logic.{_↔_, _⊎_, inl, inr}
 use mathlib.Core.Bool.{Bool, true, false, not, _&&_, _||_, not-eq-not, false≢true}
 use mathlib.Core.List.{List, []}
+use native.Mathlib.Nat.{le-refl}
 use native.Mathlib.Decide.{decLt}
 use native.Mathlib.Omega.{arith}
 use lib.ListN.{getD}
@@ -71,6 +72,44 @@ module _ (low high r q : ℕ) (this other : Bool) where
       go (no a) (no b) (yes c) (no d) = inr (inr (up (λ x. a (x .0)) (λ x. d (x .1 .1)) (λ x. omega arith)))
       go (no a) (no b) (no c) (yes d) = inr (inr (up (λ x. a (x .0)) (λ x. c (x .0 .1)) (λ x. omega arith)))
       go (no a) (no b) (no c) (no d) = absurd (false≢true (sym (pair-above o (omega arith) (omega arith)) ∙ e))
+
+-- an order is the same while the group is solved and when it is below: a pair in the group is decided in one direction then, a pair that it parts in none
+pub pair-closed : (low high r q : ℕ) (this other : Bool) → low ≤ high → (BothIn low high r q → this ≡ not other)
+    → (¬ ((r < low) × (q < low)) → ¬ (BothIn low high r q) → (this ≡ false) × (other ≡ false))
+    → pairOrder low high r q this other ≡ pairOrder high high r q this other
+pair-closed low high r q this other o inside apart = go (decLt r low) (decLt q low) (decLt r high) (decLt q high)
+  where
+    one-way : (a b : Bool) → a ≡ not b → a ≡ (a || (not b && ltb r q))
+    one-way a true e = rw e
+    one-way a false e = rw e
+
+    -- both are below the next group
+    under : ¬ ((r < low) × (q < low)) → ¬ (BothIn low high r q) → r < high → q < high
+        → pairOrder low high r q this other ≡ pairOrder high high r q this other
+    under n m h k =
+        let (not-this, not-other) = apart n m in
+        pair-parted low high r q this other n m (λ x. omega arith) ∙ sym (pair-below high high r q this other h k ∙ rw (not-this, not-other))
+
+    -- one is
+    over : ¬ ((r < low) × (q < low)) → ¬ (BothIn low high r q) → ¬ ((high ≤ r) × (high ≤ q)) → ¬ ((r < high) × (q < high))
+        → pairOrder low high r q this other ≡ pairOrder high high r q this other
+    over n m above below = pair-parted low high r q this other n m above ∙ sym (pair-parted high high r q this other below (λ x. omega arith) above)
+
+    go : Dec (r < low) → Dec (q < low) → Dec (r < high) → Dec (q < high) → pairOrder low high r q this other ≡ pairOrder high high r q this other
+    go (yes a) (yes b) _ _ = pair-below low high r q this other a b ∙ sym (pair-below high high r q this other (omega arith) (omega arith))
+    go (yes a) (no b) _ (yes d) = under (λ x. b (x .1)) (λ x. omega arith) (omega arith) d
+    go (yes a) (no b) _ (no d) = over (λ x. b (x .1)) (λ x. omega arith) (λ x. omega arith) (λ x. d (x .1))
+    go (no a) (yes b) (yes c) _ = under (λ x. a (x .0)) (λ x. omega arith) c (omega arith)
+    go (no a) (yes b) (no c) _ = over (λ x. a (x .0)) (λ x. omega arith) (λ x. omega arith) (λ x. c (x .0))
+    go (no a) (no b) (yes c) (yes d) =
+        let here : BothIn low high r q = ((omega arith, c), (omega arith, d)) in
+        pair-inside low high r q this other here ∙ one-way this other (inside here) ∙ sym (pair-below high high r q this other c d)
+    go (no a) (no b) (yes c) (no d) = over (λ x. a (x .0)) (λ x. d (x .1 .1)) (λ x. omega arith) (λ x. d (x .1))
+    go (no a) (no b) (no c) (yes d) = over (λ x. a (x .0)) (λ x. c (x .0 .1)) (λ x. omega arith) (λ x. c (x .0))
+    go (no a) (no b) (no c) (no d) =
+        let h : high ≤ r = omega arith in
+        let k : high ≤ q = omega arith in
+        pair-above low high r q this other o h k ∙ sym (pair-above high high r q this other (le-refl _) h k)
 
 -- ---- the orders of a zone
 

@@ -110,7 +110,7 @@ module _ (U : Unplanned) (low high : ℕ) (decided : List Order) where
             (spare-worked-out X (U .given) (able .once) (present-both U low high decided) all u) is-v
 
 module _ (U : Unplanned) (low high : ℕ) where
-  turn-falls : (s t : List Order) → turn U low high s ≡ more t → length (candidates U low high t) < length (candidates U low high s)
+  pub turn-falls : (s t : List Order) → turn U low high s ≡ more t → length (candidates U low high t) < length (candidates U low high s)
   turn-falls s t e = let step = turn-more U low high s t e in rw (step .adds) (candidates-fall U low high s (step .order) (step .candidate))
 
   pub trial-more : (s t : List Order) → turn U low high s ≡ more t → trial U low high s ≡ trial U low high t

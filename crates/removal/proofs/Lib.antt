@@ -14,3 +14,4 @@ pub mod Candidates
 pub mod Taken
 pub mod Turns
 pub mod Trial
+pub mod Solved

@@ -58,22 +58,26 @@ module _ (U : Unplanned) (low high : ℕ) (decided : List Order) where
       go false e true f = record { order = o; candidate = h; adds = refl; comes-out = f }
       go false e false f = inr refl
 
+  abbrev X : Crossing
+  X = present U low high decided
+
+  -- the times that the turn works out
+  abbrev time : ℕ → ℕ → ℕ
+  time = enteringTime X (U .given) (movesMade X)
+
+  abbrev spare : ℕ → ℕ → ℕ
+  spare = spareTime X (U .given) (movesMade X) time
+
   turn-gives : Gives (turn U low high decided)
   unfolding turn
-  turn-gives = go (largestCost U t spare (candidates U low high decided)) refl
+  turn-gives = go (largestCost U time spare (candidates U low high decided)) refl
     where
-      t : ℕ → ℕ → ℕ
-      t = enteringTime (present U low high decided) (U .given) (movesMade (present U low high decided))
-
-      spare : ℕ → ℕ → ℕ
-      spare = spareTime (present U low high decided) (U .given) (movesMade (present U low high decided)) t
-
-      go : (found : Option Costed) → largestCost U t spare (candidates U low high decided) ≡ found
+      go : (found : Option Costed) → largestCost U time spare (candidates U low high decided) ≡ found
           → Gives (onTaken found)
-      go none e = inl (refl, largest-none U t spare (candidates U low high decided) e)
+      go none e = inl (refl, largest-none U time spare (candidates U low high decided) e)
       go (some x) e =
           decide-gives (x .order)
-          (largest-taken U t spare (IsCandidate U low high decided) (candidates U low high decided) x (candidates-are U low high decided) e)
+          (largest-taken U time spare (IsCandidate U low high decided) (candidates U low high decided) x (candidates-are U low high decided) e)
 
   pub turn-more : (next : List Order) → turn U low high decided ≡ more next → Decides next
   turn-more next e = rw e at turn-gives
@@ -81,33 +85,28 @@ module _ (U : Unplanned) (low high : ℕ) (decided : List Order) where
   pub turn-stop : (r : Option (List Order)) → turn U low high decided ≡ stop r → Stops r
   turn-stop r e = rw e at turn-gives
 
+  pub turn-none : candidates U low high decided ≡ [] → turn U low high decided ≡ stop (some decided)
+  unfolding turn largestCost
+  turn-none empty = ap (λ (orders : List Order). onTaken (largestCost U time spare orders)) empty
+
   -- the turn from any entering and spare times of the orders present, whichever run worked them out
   module _ (able : Plannable U) (out : isOut (present U low high decided) ≡ true) where
-    abbrev X : Crossing
-    X = present U low high decided
-
     pub turn-by : (t v : ℕ → ℕ → ℕ) → EnteringTimes X (U .given) t → SpareTimes X (U .given) t v
         → turn U low high decided ≡ onTaken (largestCost U t v (candidates U low high decided))
     unfolding turn
-    turn-by t v is-t is-v = ap onTaken (largest-same U u t spare v times spares (IsCandidate U low high decided) (λ o h. h .undecided .is-in .pair)
+    turn-by t v is-t is-v = ap onTaken (largest-same U time t spare v times spares (IsCandidate U low high decided) (λ o h. h .undecided .is-in .pair)
         (candidates U low high decided) (candidates-are U low high decided))
       where
         all : AllComeOut (system X) (start (system X))
         all = allMade X out
 
-        u : ℕ → ℕ → ℕ
-        u = enteringTime X (U .given) (movesMade X)
-
-        spare : ℕ → ℕ → ℕ
-        spare = spareTime X (U .given) (movesMade X) u
-
-        times : SameAtSteps X u t
-        times = times-unique X (U .given) (present-visitors U low high decided) all u t (entering-made X (U .given) (present-visitors U low high decided) out) is-t
+        times : SameAtSteps X time t
+        times = times-unique X (U .given) (present-visitors U low high decided) all time t (entering-made X (U .given) (present-visitors U low high decided) out) is-t
 
         spares : SameAtSteps X spare v
         spares =
-            spare-unique X (U .given) (able .once) (present-both U low high decided) all u t times spare v
-            (spare-worked-out X (U .given) (able .once) (present-both U low high decided) all u) is-v
+            spare-unique X (U .given) (able .once) (present-both U low high decided) all time t times spare v
+            (spare-worked-out X (U .given) (able .once) (present-both U low high decided) all time) is-v
 
 module _ (U : Unplanned) (low high : ℕ) where
   pub turn-falls : (s t : List Order) → turn U low high s ≡ more t → length (candidates U low high t) < length (candidates U low high s)

@@ -15,3 +15,4 @@ pub mod Taken
 pub mod Turns
 pub mod Trial
 pub mod Solved
+pub mod Final

@@ -16,3 +16,5 @@ pub mod Turns
 pub mod Trial
 pub mod Solved
 pub mod Final
+pub mod Lists
+pub mod Planned

@@ -9,7 +9,7 @@ use borrow.Author.Tests.{eqb-false, ne-eqb, not-true}
 use Rattle.words.proofs.Tests.{eqb-says, and-says}
 use Rattle.routes.specs.Lists.{Named}
 use Rattle.routes.proofs.Places.{named-says}
-use Rattle.removal.specs.Pairs.{Unplanned, Order, isDecided, sameLane, isPair}
+use Rattle.removal.specs.Pairs.{Unplanned, Order, isDecided, visits, sameLane, isPair}
 use Rattle.removal.proofs.Tests.{or-says}
 
 -- the order o is of cart d before cart c in zone z
@@ -26,9 +26,12 @@ module _ (U : Unplanned) where
   abbrev pub Visiting : ℕ → ℕ → Type 0
   Visiting c z = Named (getD (U .routes) c []) z
 
+  pub visits-says : (c z : ℕ) → (visits U c z ≡ true) ↔ Visiting c z
+  visits-says c z = named-says (getD (U .routes) c []) z
+
   pub pair-says : (z d c : ℕ) → (isPair U z d c ≡ true) ↔ ((Visiting d z × Visiting c z) × ¬ (U .given .lane d ≡ U .given .lane c))
   unfolding isPair
-  pair-says z d c = and-says _ _ (and-says _ _ (named-says (getD (U .routes) d []) z) (named-says (getD (U .routes) c []) z)) apart
+  pair-says z d c = and-says _ _ (and-says _ _ (visits-says d z) (visits-says c z)) apart
     where
       apart : (not (sameLane U d c) ≡ true) ↔ (¬ (U .given .lane d ≡ U .given .lane c))
       apart = (λ e same. eqb-false _ _ (not-true _ e) same, λ n. ap not (ne-eqb _ _ n))

@@ -3,20 +3,18 @@ use Prim.Native.Nat.{ℕ, _≤_, _<_}
 use mathlib.Core.Path.{_≡_, refl, sym, ap₂, _∙_}
 use mathlib.Core.Logic.{_↔_, _⊎_, inl, inr}
 use mathlib.Core.Bool.{Bool, true, false, not, _&&_, _||_, not-eq-not, false≢true}
-use mathlib.Core.List.{List, []}
+use mathlib.Core.List.{List}
 use native.Mathlib.Nat.{le-refl}
 use native.Mathlib.Decide.{decLt}
 use native.Mathlib.Omega.{arith}
-use lib.ListN.{getD}
 use lib.Dec.{ltb, leb}
 use borrow.Author.Tests.{ltb-true, eqb-true, lt-ltb, le-leb, eq-eqb, ne-eqb}
 use Rattle.words.proofs.Tests.{ltb-says, leb-says, and-says}
 use Rattle.routes.specs.Orders.{OnlyVisitors}
-use Rattle.routes.proofs.Places.{named-says}
 use Rattle.removal.specs.Pairs.{Unplanned, Order, isDecided, rank, visits, sameLane, isPair}
 use Rattle.removal.specs.Present.{inGroup, pairOrder, goesBefore, present}
 use Rattle.removal.specs.Solved.{BothIn}
-use Rattle.removal.proofs.Pairs.{Visiting, pair-says}
+use Rattle.removal.proofs.Pairs.{Visiting, visits-says, pair-says}
 use Rattle.removal.proofs.Spare.{BothVisit}
 
 fails : (b : Bool) → (b ≡ true → ⊥) → b ≡ false
@@ -122,7 +120,7 @@ module _ (U : Unplanned) (z d c : ℕ) where
   bothVisit = visits U d z && visits U c z
 
   both-says : (bothVisit ≡ true) ↔ (Visiting U d z × Visiting U c z)
-  both-says = and-says _ _ (named-says (getD (U .routes) d []) z) (named-says (getD (U .routes) c []) z)
+  both-says = and-says _ _ (visits-says U d z) (visits-says U c z)
 
   abbrev ordered : Bool → Bool
   ordered pair = chosen bothVisit (sameLane U d c) (ltb d c) pair

@@ -55,7 +55,7 @@ module _ (U : Unplanned) (able : Plannable U) (low high : ℕ) (decided : List O
       ∙ sym (before-pair U low low decided z d c pair)))
       ∙ before
 
-  start-out : isOut (present U low low decided) ≡ true → isOut X ≡ true
+  pub start-out : isOut (present U low low decided) ≡ true → isOut X ≡ true
   start-out out =
       let Y = ordersBelow X (rank U) low in
       out-says X .1

@@ -1,4 +1,4 @@
--- The orders present: what they say of a pair, by where its ranks are, and that a group begins with no cycle.
+-- The orders present: of a pair by where its ranks are, and of two carts of a zone.
 use Prim.Native.Nat.{ℕ, _≤_, _<_}
 use mathlib.Core.Path.{_≡_, refl, sym, ap₂, _∙_}
 use mathlib.Core.Logic.{_↔_, _⊎_, inl, inr}
@@ -122,6 +122,7 @@ module _ (U : Unplanned) (z d c : ℕ) where
   both-says : (bothVisit ≡ true) ↔ (Visiting U d z × Visiting U c z)
   both-says = and-says _ _ (visits-says U d z) (visits-says U c z)
 
+  -- the order of two carts, by the order of the pair
   abbrev ordered : Bool → Bool
   ordered pair = chosen bothVisit (sameLane U d c) (ltb d c) pair
 
@@ -133,7 +134,7 @@ module _ (U : Unplanned) (z d c : ℕ) where
   lane-ordered : (b : Bool) → Visiting U d z → Visiting U c z → U .given .lane d ≡ U .given .lane c → ordered b ≡ ltb d c
   lane-ordered b v w same = ap₂ (λ (v s : Bool). chosen v s (ltb d c) b) (both-says .1 (v, w)) (eq-eqb _ _ same)
 
-  -- two carts of one lane, or a pair
+  -- of one lane, by number
   abbrev pub OfLane : Type 0
   OfLane = (U .given .lane d ≡ U .given .lane c) × (d < c)
 
@@ -159,6 +160,7 @@ module _ (U : Unplanned) (z d c : ℕ) where
       go true both false apart same = same (rw (both, apart))
 
 module _ (U : Unplanned) (low high : ℕ) (decided : List Order) where
+  -- the order of a pair
   abbrev pub pairOf : ℕ → ℕ → ℕ → Bool
   pairOf z d c = pairOrder low high (rank U d) (rank U c) (isDecided decided z d c) (isDecided decided z c d)
 
@@ -166,8 +168,7 @@ module _ (U : Unplanned) (low high : ℕ) (decided : List Order) where
   unfolding goesBefore
   before-lane z d c = lane-ordered U z d c (pairOf z d c)
 
-  pub before-pair : (z d c : ℕ) → isPair U z d c ≡ true → goesBefore U low high decided z d c
-      ≡ pairOrder low high (rank U d) (rank U c) (isDecided decided z d c) (isDecided decided z c d)
+  pub before-pair : (z d c : ℕ) → isPair U z d c ≡ true → goesBefore U low high decided z d c ≡ pairOf z d c
   unfolding goesBefore
   before-pair z d c = pair-ordered U z d c (pairOf z d c)
 

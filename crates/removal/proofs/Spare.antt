@@ -2,8 +2,9 @@
 use Prim.Native.Nat.{ℕ, zero, suc, _-_, _<_, min}
 use mathlib.Core.Path.{_≡_, refl, sym, ap₂, _∙_}
 use mathlib.Core.Bool.{Bool, true, false}
+use mathlib.Core.List.{List, []}
 use native.Mathlib.Omega.{arith}
-use lib.ListN.{length}
+use lib.ListN.{length, getD}
 use lib.Dec.{ltb}
 use borrow.Author.Tests.{ltb-true, lt-ltb}
 use Rattle.moves.specs.System.{System, start}
@@ -39,9 +40,9 @@ least-same test rule other a b (suc n) h e = go (test n) refl (least-same test r
 abbrev pub BothVisit : Crossing → Type 0
 BothVisit X = (z d c : ℕ) → X .before z d c ≡ true → Visits X d z × Visits X c z
 
--- t and u are the same at each step
-abbrev pub SameAtSteps : Crossing → (ℕ → ℕ → ℕ) → (ℕ → ℕ → ℕ) → Type 0
-SameAtSteps X t u = (c s : ℕ) → s < steps X c → t c s ≡ u c s
+-- t and u are the same at each step of the routes
+abbrev pub SameAtSteps : List (List ℕ) → (ℕ → ℕ → ℕ) → (ℕ → ℕ → ℕ) → Type 0
+SameAtSteps routes t u = (c s : ℕ) → s < length (getD routes c []) → t c s ≡ u c s
 
 module _ (X : Crossing) (G : Given) where
   -- v are the spare times where t are the entering times
@@ -71,7 +72,7 @@ module _ (X : Crossing) (G : Given) where
 
   -- ---- it depends on the entering times of steps alone
 
-  module _ (t u : ℕ → ℕ → ℕ) (same : SameAtSteps X t u) where
+  module _ (t u : ℕ → ℕ → ℕ) (same : SameAtSteps (X .routes) t u) where
     leaving-same : (c s : ℕ) → s < steps X c → leaving X G t c s ≡ leaving X G u c s
     leaving-same c s h =
         omega (
@@ -123,13 +124,13 @@ module _ (X : Crossing) (G : Given) where
       spare-worked-out t =
           worked-back-solves S (λ c j. j < steps X c) step-move (spareRule X G t (finish X G t)) (spare-ahead t (finish X G t)) all (λ _ _. 0)
 
-      pub spare-unique : (t u : ℕ → ℕ → ℕ) → SameAtSteps X t u → (v w : ℕ → ℕ → ℕ) → SpareTimes t v → SpareTimes u w → SameAtSteps X v w
+      pub spare-unique : (t u : ℕ → ℕ → ℕ) → SameAtSteps (X .routes) t u → (v w : ℕ → ℕ → ℕ) → SpareTimes t v → SpareTimes u w → SameAtSteps (X .routes) v w
       spare-unique t u same v w is-v is-w =
           ahead-unique S (λ c j. j < steps X c) step-move (spareRule X G u (finish X G u)) (spare-ahead u (finish X G u)) all v w
           (spare-times-same t u same v is-v) is-w
 
     -- whichever run brought all out
-    pub spare-time-same : (all other : AllComeOut S (start S)) (t u : ℕ → ℕ → ℕ) → SameAtSteps X t u
-        → SameAtSteps X (spareTime X G (all .run) t) (spareTime X G (other .run) u)
+    pub spare-time-same : (all other : AllComeOut S (start S)) (t u : ℕ → ℕ → ℕ) → SameAtSteps (X .routes) t u
+        → SameAtSteps (X .routes) (spareTime X G (all .run) t) (spareTime X G (other .run) u)
     spare-time-same all other t u same =
         spare-unique all t u same (spareTime X G (all .run) t) (spareTime X G (other .run) u) (spare-worked-out all t) (spare-worked-out other u)

@@ -2,7 +2,7 @@
 use Prim.Native.Nat.{ℕ, _≤_, _<_, zero-le}
 use mathlib.Core.Path.{_≡_, refl, sym, _∙_}
 use mathlib.Core.Logic.{_⊎_, inl, inr, ⊎-elim, Iff·rfl}
-use mathlib.Core.Bool.{true, false, false≢true}
+use mathlib.Core.Bool.{Bool, true, false, false≢true}
 use mathlib.Core.List.{List, []}
 use native.Mathlib.Omega.{arith}
 use Rattle.words.proofs.Tests.{ltb-says, and-says}
@@ -15,31 +15,34 @@ use Rattle.routes.proofs.Pairs.{decided-looser}
 use Rattle.routes.proofs.Ranks.{rank-out, below-out}
 use Rattle.removal.specs.Pairs.{Unplanned, Order, isDecided, rank, isPair}
 use Rattle.removal.specs.Plannable.{Plannable}
-use Rattle.removal.specs.Present.{pairOrder, goesBefore, present}
+use Rattle.removal.specs.Present.{goesBefore, present}
 use Rattle.removal.specs.Running.{isOut}
 use Rattle.removal.specs.Solved.{BothIn, PairIn, SolvedBelow}
 use Rattle.removal.proofs.Ranks.{lane-rises}
 use Rattle.removal.proofs.Running.{out-says}
-use Rattle.removal.proofs.Present.{pair-below, pair-up, before-cases, before-pair, before-same, present-visitors}
+use Rattle.removal.proofs.Present.{OfLane, pairOf, pair-below, pair-up, before-cases, before-pair, before-same, present-visitors}
 
 module _ (U : Unplanned) (able : Plannable U) (low high : ℕ) (decided : List Order) (o : low ≤ high)
     (none : (z d c : ℕ) → PairIn U low high z d c → ¬ (isDecided decided z d c ≡ true)) where
+  -- cart d's rank is lower than cart c's, or both are below the group
+  abbrev Up : ℕ → ℕ → Type 0
+  Up d c = ((rank U d < low) × (rank U c < low)) ⊎ (rank U d < rank U c)
+
   -- where nothing in the group is decided, orders are among those below it, or go up
-  before-up : (z d c : ℕ) → goesBefore U low high decided z d c ≡ true → ((rank U d < low) × (rank U c < low)) ⊎ (rank U d < rank U c)
+  before-up : (z d c : ℕ) → goesBefore U low high decided z d c ≡ true → Up d c
   before-up z d c b = let ((v, w), either) = before-cases U low high decided z d c b in go (able .cart-below c z w) either
     where
-      by : isPair U z d c ≡ true → ((rank U d < low) × (rank U c < low))
-          ⊎ ((BothIn low high (rank U d) (rank U c) × (isDecided decided z d c ≡ true)) ⊎ (rank U d < rank U c))
-          → ((rank U d < low) × (rank U c < low)) ⊎ (rank U d < rank U c)
+      this : Bool
+      this = isDecided decided z d c
+
+      by : isPair U z d c ≡ true → ((rank U d < low) × (rank U c < low)) ⊎ ((BothIn low high (rank U d) (rank U c) × (this ≡ true)) ⊎ (rank U d < rank U c)) → Up d c
       by pair (inl below) = inl below
-      by pair (inr (inl (inside, this))) = absurd (none z d c (record { pair = pair; ranks = inside }) this)
+      by pair (inr (inl (inside, is))) = absurd (none z d c (record { pair = pair; ranks = inside }) is)
       by pair (inr (inr up)) = inr up
 
-      go : c < U .carts → ((U .given .lane d ≡ U .given .lane c) × (d < c))
-          ⊎ ((isPair U z d c ≡ true) × (pairOrder low high (rank U d) (rank U c) (isDecided decided z d c) (isDecided decided z c d) ≡ true))
-          → ((rank U d < low) × (rank U c < low)) ⊎ (rank U d < rank U c)
+      go : c < U .carts → OfLane U z d c ⊎ ((isPair U z d c ≡ true) × (pairOf U low high decided z d c ≡ true)) → Up d c
       go l (inl (lane, below)) = inr (lane-rises U able d c l below lane)
-      go l (inr (pair, order)) = by pair (pair-up low high (rank U d) (rank U c) (isDecided decided z d c) (isDecided decided z c d) o order)
+      go l (inr (pair, order)) = by pair (pair-up low high (rank U d) (rank U c) this (isDecided decided z c d) o order)
 
   abbrev X : Crossing
   X = present U low high decided

@@ -1,16 +1,17 @@
 -- The order of largest cost is one of the list, and depends on times and spare times of steps alone.
-use Prim.Native.Nat.{ℕ, _<_}
+use Prim.Native.Nat.{ℕ}
 use mathlib.Core.Path.{_≡_, refl}
 use mathlib.Core.Bool.{Bool, true, false}
 use mathlib.Core.Option.{Option, none, some}
 use mathlib.Core.List.{List, [], _∷_}
 use native.Mathlib.Omega.{arith}
-use lib.ListN.{length, getD}
+use lib.ListN.{getD}
 use Rattle.words.specs.Lists.{pick, All}
 use Rattle.routes.specs.Lists.{placeOf}
 use Rattle.routes.proofs.Places.{place-below}
 use Rattle.removal.specs.Pairs.{Unplanned, Order, isPair}
 use Rattle.removal.specs.Cost.{Costed, isTakenOver, taken, cost, largestCost}
+use Rattle.removal.proofs.Spare.{SameAtSteps}
 use Rattle.removal.proofs.Pairs.{Visiting, pair-says}
 
 module _ (U : Unplanned) (t spare : ℕ → ℕ → ℕ) where
@@ -35,11 +36,7 @@ module _ (U : Unplanned) (t spare : ℕ → ℕ → ℕ) where
           either true p = p
           either false p = here
 
--- numbers of steps that are the same
-abbrev pub SameSteps : Unplanned → (ℕ → ℕ → ℕ) → (ℕ → ℕ → ℕ) → Type 0
-SameSteps U t u = (c s : ℕ) → s < length (getD (U .routes) c []) → t c s ≡ u c s
-
-module _ (U : Unplanned) (t u spare other : ℕ → ℕ → ℕ) (times : SameSteps U t u) (spares : SameSteps U spare other) where
+module _ (U : Unplanned) (t u spare other : ℕ → ℕ → ℕ) (times : SameAtSteps (U .routes) t u) (spares : SameAtSteps (U .routes) spare other) where
   cost-same : (o : Order) → Visiting U (o .first) (o .zone) → Visiting U (o .second) (o .zone) → cost U t spare o ≡ cost U u other o
   unfolding cost
   cost-same o v w =

@@ -72,8 +72,7 @@ module _ (U : Unplanned) (low high : ℕ) (decided : List Order) where
   unfolding turn
   turn-gives = go (largestCost U time spare (candidates U low high decided)) refl
     where
-      go : (found : Option Costed) → largestCost U time spare (candidates U low high decided) ≡ found
-          → Gives (onTaken found)
+      go : (found : Option Costed) → largestCost U time spare (candidates U low high decided) ≡ found → Gives (onTaken found)
       go none e = inl (refl, largest-none U time spare (candidates U low high decided) e)
       go (some x) e =
           decide-gives (x .order)
@@ -94,16 +93,20 @@ module _ (U : Unplanned) (low high : ℕ) (decided : List Order) where
     pub turn-by : (t v : ℕ → ℕ → ℕ) → EnteringTimes X (U .given) t → SpareTimes X (U .given) t v
         → turn U low high decided ≡ onTaken (largestCost U t v (candidates U low high decided))
     unfolding turn
-    turn-by t v is-t is-v = ap onTaken (largest-same U time t spare v times spares (IsCandidate U low high decided) (λ o h. h .undecided .is-in .pair)
+    turn-by t v is-t is-v =
+        ap onTaken
+        (largest-same U time t spare v times spares (IsCandidate U low high decided) (λ o h. h .undecided .is-in .pair)
         (candidates U low high decided) (candidates-are U low high decided))
       where
         all : AllComeOut (system X) (start (system X))
         all = allMade X out
 
-        times : SameAtSteps X time t
-        times = times-unique X (U .given) (present-visitors U low high decided) all time t (entering-made X (U .given) (present-visitors U low high decided) out) is-t
+        times : SameAtSteps (U .routes) time t
+        times =
+            times-unique X (U .given) (present-visitors U low high decided) all time t
+            (entering-made X (U .given) (present-visitors U low high decided) out) is-t
 
-        spares : SameAtSteps X spare v
+        spares : SameAtSteps (U .routes) spare v
         spares =
             spare-unique X (U .given) (able .once) (present-both U low high decided) all time t times spare v
             (spare-worked-out X (U .given) (able .once) (present-both U low high decided) all time) is-v

@@ -53,17 +53,22 @@ static void show_list(size_t zone)
     printf("\n");
 }
 
-/* Writes the plan into room of so many bytes, and says what became of the room. */
+static const char *same(const uint8_t *bytes, const uint8_t *others, size_t length)
+{
+    return memcmp(bytes, others, length) == 0 ? "the same" : "changed";
+}
+
+/* Writes the plan into room of so many bytes, and says what became of the memory there. */
 static void keep_plan(size_t room_length)
 {
-    uint8_t room[OBLAKOSH_PLAN], before[OBLAKOSH_PLAN];
-    memset(room, 0xFF, sizeof room);
-    memcpy(before, room, sizeof room);
-    oblakosh_plan_written wrote = oblakosh_write_again(sheet, sizeof sheet, plan, sizeof plan, room, room_length);
-    done(wrote.outcome);
-    printf("written %zu, %s, %s\n", wrote.length,
-           memcmp(room, plan, wrote.length) == 0 ? "the same bytes" : "other bytes",
-           memcmp(room + wrote.length, before + wrote.length, sizeof room - wrote.length) == 0 ? "beyond untouched" : "beyond touched");
+    uint8_t memory[OBLAKOSH_PLAN], before[OBLAKOSH_PLAN];
+    memset(memory, 0xFF, sizeof memory);
+    memcpy(before, memory, sizeof memory);
+    oblakosh_plan_written wrote = oblakosh_write_again(sheet, sizeof sheet, plan, sizeof plan, memory, room_length);
+    if (done(wrote.outcome)) {
+        printf("plan of %zu bytes: %s\n", wrote.length, same(memory, plan, wrote.length));
+    }
+    printf("other memory: %s\n", same(memory + wrote.length, before + wrote.length, sizeof memory - wrote.length));
 }
 
 int main(void)

@@ -6,7 +6,8 @@
    Of the C library they need memcpy and memset.
 
    What is proved. Every function takes every byte string and number, ends, and answers what document 01 says: done, or
-   the first check that fails. On refusal every other part of the answer is 0 and lent memory is unchanged.
+   the first check that fails. On refusal every other part of the answer is 0, but for the ring that comes with 22, and
+   lent memory is unchanged.
 
    What is assumed. Nothing here tests a pointer; the caller sees to it that, until the function returns,
      - a pointer and the length after it are memory of that many bytes (for words, of that many 32-bit words, at a

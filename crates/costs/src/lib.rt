@@ -1,0 +1,1 @@
+// The candidates' costs over tables, and the order of largest cost.

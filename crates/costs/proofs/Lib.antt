@@ -4,3 +4,6 @@ pub mod Taken
 pub mod Largest
 pub mod Members
 pub mod Candidates
+pub mod Differences
+pub mod Ties
+pub mod Compared

@@ -1,0 +1,28 @@
+-- The order that is taken, as a choice among the tables' candidates.
+use Prim.Native.Nat.{ℕ, _<_}
+use mathlib.Core.Path.{_≡_}
+use mathlib.Core.Bool.{true, false}
+use lib.ListN.{getD}
+use lib.IntN.{negsuc}
+use Rattle.sets.specs.Member.{has}
+use Rattle.entering.specs.Times.{timesOf}
+use Rattle.removal.specs.Pairs.{Unplanned, Order}
+use Rattle.removal.specs.Cost.{Costed}
+use Rattle.costs.specs.Largest.{IsLargest}
+use Rattle.costs.specs.Tables.{Tables, orderAt, Costable}
+use Rattle.costs.specs.declared.Choice.{Choice}
+
+module _ (T : Tables) where
+  -- the order of a choice, with its cost
+  abbrev pub chosen : Choice → Costed
+  chosen r = record { order = orderAt T (r .step) (r .first); cost = r .cost }
+
+  -- no candidate, or the one of largest cost, by the costs and ranks of any U that the tables tell of
+  pub record Chosen (Candidate : Order → Type 0) (r : Choice) : Type 0 where
+    pub step-below : r .step < 128
+    pub first-below : r .first < 16
+    pub none-found : r .found ≡ false → (o : Order) → Candidate o → ⊥
+    pub below-all : r .found ≡ false → r .cost ≡ negsuc 37740000
+    pub is-undecided : r .found ≡ true → has (getD (T .undecided) (r .step) 0) (r .first) ≡ true
+    pub largest : r .found ≡ true → (U : Unplanned) → Costable U T
+        → IsLargest U (timesOf (T .enter)) (timesOf (T .spare)) Candidate (chosen r)

@@ -11,7 +11,7 @@ use Rattle.removal.specs.Cost.{level}
 use Rattle.costs.proofs.Strict.{clash, not-true-false, ltZ-strict}
 
 -- a number stored by its bits
-abbrev bits : ℤ → ℤ
+abbrev pub bits : ℤ → ℤ
 bits v = toZ w32 (ofZ w32 v)
 
 less-is : (v w : ℤ) {less : Bool} → mag v < 2 ^ 31 → mag w < 2 ^ 31 → ltZ (bits v) (bits w) ≡ less → ltZ v w ≡ less

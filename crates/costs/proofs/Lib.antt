@@ -7,3 +7,6 @@ pub mod Candidates
 pub mod Differences
 pub mod Ties
 pub mod Compared
+pub mod Told
+pub mod Choosing
+pub mod Scanning

@@ -1,16 +1,22 @@
 -- The order that is taken, as a choice among the tables' candidates.
 use Prim.Native.Nat.{ℕ, _<_}
 use mathlib.Core.Path.{_≡_}
-use mathlib.Core.Bool.{true, false}
+use mathlib.Core.Bool.{Bool, true, false}
+use mathlib.Core.List.{List}
 use lib.ListN.{getD}
-use lib.IntN.{negsuc}
+use lib.IntN.{ℤ, negsuc}
+use lib.Signed.{ltZ}
 use Rattle.sets.specs.Member.{has}
 use Rattle.entering.specs.Times.{timesOf}
 use Rattle.removal.specs.Pairs.{Unplanned, Order}
-use Rattle.removal.specs.Cost.{Costed}
+use Rattle.removal.specs.Cost.{Costed, level}
 use Rattle.costs.specs.Largest.{IsLargest}
-use Rattle.costs.specs.Tables.{Tables, orderAt, Costable}
+use Rattle.costs.specs.Tables.{Tables, InRange, winsTie, orderAt, CandidateBelow, Costable}
 use Rattle.costs.specs.declared.Choice.{Choice}
+
+-- "Take the direction of largest cost; ties go to": whether cart a before the cart of the step at x, at this cost, is taken over a choice
+abbrev pub isTakenAt : List ℕ → List ℕ → ℕ → ℕ → ℤ → Choice → Bool
+isTakenAt zone rank x a cost r = level (ltZ (r .cost) cost) (ltZ cost (r .cost)) (winsTie zone rank x a (r .step) (r .first))
 
 module _ (T : Tables) where
   -- the order of a choice, with its cost
@@ -26,3 +32,13 @@ module _ (T : Tables) where
     pub is-undecided : r .found ≡ true → has (getD (T .undecided) (r .step) 0) (r .first) ≡ true
     pub largest : r .found ≡ true → (U : Unplanned) → Costable U T
         → IsLargest U (timesOf (T .enter)) (timesOf (T .spare)) Candidate (chosen r)
+
+  -- the choice among the candidates of the steps below n
+  abbrev pub ChosenBelow : ℕ → Choice → Type 0
+  ChosenBelow n r = Chosen (CandidateBelow T n) r
+
+  -- what is asked before the candidates of the step at x are looked at
+  pub record Choosing (x : ℕ) (r : Choice) : Type 0 where
+    pub in-range : InRange T
+    pub is-step : x < 128
+    pub so-far : ChosenBelow x r

@@ -1,6 +1,6 @@
 -- Costs compared as signed numbers of 32 bits: exactly, also around zero; a tie goes to the next level.
 use Prim.Native.Nat.{_^_, _<_}
-use mathlib.Core.Path.{_≡_, sym, _∙_}
+use mathlib.Core.Path.{_≡_}
 use mathlib.Core.Bool.{Bool, true, false}
 use lib.IntN.{ℤ}
 use lib.Signed.{mag, ltZ}

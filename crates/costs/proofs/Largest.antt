@@ -10,7 +10,6 @@ use Rattle.words.specs.Lists.{pick}
 use Rattle.removal.specs.Pairs.{Unplanned, Order}
 use Rattle.removal.specs.Cost.{Costed, isTakenOver, taken, largestCost}
 use Rattle.costs.specs.Largest.{costed, IsLargest, OfCarts}
-use Rattle.costs.proofs.Strict.{Strict}
 use Rattle.costs.proofs.Taken.{taken-strict, taken-asym, taken-total}
 
 abbrev pub Among : List Order → Order → Type 0

@@ -10,3 +10,4 @@ pub mod Compared
 pub mod Told
 pub mod Choosing
 pub mod Scanning
+pub mod Group

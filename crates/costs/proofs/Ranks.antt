@@ -1,13 +1,12 @@
 -- Ranks tell carts apart: of two carts one comes before the other, and then its rank is lower.
 use Prim.Native.Nat.{ℕ, _≤_, _<_}
-use mathlib.Core.Path.{_≡_, refl, sym, _∙_}
+use mathlib.Core.Path.{_≡_, refl, _∙_}
 use mathlib.Core.Logic.{_⊎_, inl, inr}
 use mathlib.Core.Bool.{Bool, true, false, _&&_, _||_}
 use native.Mathlib.Decide.{ℕ-discrete, decLt}
 use native.Mathlib.Omega.{arith}
 use lib.Dec.{ltb, eqb}
 use borrow.Author.Tests.{lt-ltb, le-ltb, eq-eqb, ltb-true, eqb-true}
-use Rattle.sets.specs.Counting.{countBelow}
 use Rattle.sets.proofs.Counting.{count-within, count-full}
 use Rattle.removal.specs.Pairs.{Unplanned, comesBefore, rank}
 use Rattle.costs.proofs.Strict.{clash}

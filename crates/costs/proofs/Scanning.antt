@@ -1,8 +1,8 @@
 -- The candidates looked at so far: those of the steps below x, and of the step at x those that are not left.
 use Prim.Native.Nat.{ℕ, _+_, _≤_, _<_}
 use mathlib.Core.Path.{_≡_, refl, sym, ap, _∙_}
-use mathlib.Core.Logic.{_↔_, _⊎_, inl, inr}
-use mathlib.Core.Bool.{Bool, true, false, not, _&&_, and-true, and-false}
+use mathlib.Core.Logic.{_⊎_, inl, inr}
+use mathlib.Core.Bool.{true, false, and-true, and-false}
 use native.Mathlib.Decide.{ℕ-discrete}
 use native.Mathlib.Omega.{arith}
 use lib.ListN.{getD}
@@ -116,12 +116,14 @@ module _ (T : Tables) where
         same = toZ-ofZ w32 v fits
 
         pub scan-over : isTakenAt (T .zone) (T .rank) x a (bits v) r ≡ true → Scanned rest (record { found = true; cost = bits v; step = x; first = a })
-        scan-over over =
-            (within,
-            rw same
-            (chosen-over T x a below few is-here v its-cost (Seen others) (Seen rest) (inr (is-here, lowest-gone, refl)) either r (scanned .1) (rw same at over)))
+        scan-over over = (
+          within,
+          rw same
+              (chosen-over T x a below few is-here v its-cost (Seen others) (Seen rest) (inr (is-here, lowest-gone, refl)) either r (scanned .1) (rw same at over)),
+        )
 
         pub scan-stays : isTakenAt (T .zone) (T .rank) x a (bits v) r ≡ false → Scanned rest r
-        scan-stays under =
-            (within,
-            chosen-stays T x a below few is-here v its-cost (Seen others) (Seen rest) (inr (is-here, lowest-gone, refl)) either r (scanned .1) all-stay (rw same at under))
+        scan-stays under = (
+          within,
+          chosen-stays T x a below few is-here v its-cost (Seen others) (Seen rest) (inr (is-here, lowest-gone, refl)) either r (scanned .1) all-stay (rw same at under),
+        )

@@ -8,7 +8,7 @@ use Rattle.costs.specs.Largest.{OfCarts}
 use Rattle.costs.proofs.Strict.{Strict, clash, not-true-false, level-tied, levelled, by-value, turned, ltb-strict, ltZ-strict, ltb-tied}
 use Rattle.costs.proofs.Ranks.{rank-injective}
 
-same-order : (o p : Order) → o .zone ≡ p .zone → o .first ≡ p .first → o .second ≡ p .second → o ≡ p
+pub same-order : (o p : Order) → o .zone ≡ p .zone → o .first ≡ p .first → o .second ≡ p .second → o ≡ p
 same-order o p zone first second = λ i. record { zone = zone i; first = first i; second = second i }
 
 module _ (U : Unplanned) where

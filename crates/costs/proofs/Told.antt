@@ -1,6 +1,6 @@
 -- What the tables hold for a candidate is what U's costs and ranks are made of.
 use Prim.Native.Nat.{ℕ, _+_, _*_, _/_, _%_, _<_}
-use mathlib.Core.Path.{_≡_, refl, sym, ap, _∙_}
+use mathlib.Core.Path.{_≡_, sym, ap, _∙_}
 use mathlib.Core.Bool.{true, false, not, _&&_}
 use native.Mathlib.Omega.{arith}
 use lib.ListN.{length, getD}
@@ -10,7 +10,6 @@ use Rattle.words.proofs.Tests.{and-both}
 use Rattle.sets.specs.Member.{has}
 use Rattle.routes.specs.Lists.{Named, placeOf}
 use Rattle.routes.proofs.Places.{named-says, place-below, place-names, place-is}
-use Rattle.times.specs.Times.{gap}
 use Rattle.entering.specs.Times.{timesOf}
 use Rattle.removal.specs.Pairs.{Unplanned, rank, visits, sameLane, isPair}
 use Rattle.removal.specs.Cost.{isTakenOver, cost}
@@ -62,8 +61,14 @@ module _ (U : Unplanned) (T : Tables) (K : Costable U T) (x a : ℕ) (below : x 
   second-below : j < length (route U b)
   second-below = K .is-step x a below is
 
+  second-zone : getD (route U b) j 0 ≡ z
+  second-zone = sym (rw place at (K .tabled .zone-is b j second-below))
+
+  zone-below : z < U .zones
+  zone-below = rw second-zone at (K .tabled .zone-below b j second-below)
+
   second-at : placeOf (route U b) z ≡ j
-  second-at = place-is (route U b) z (K .tabled .once b) j second-below (sym (rw place at (K .tabled .zone-is b j second-below)))
+  second-at = place-is (route U b) z (K .tabled .once b) j second-below second-zone
 
   pub told-carts : OfCarts U (orderAt T x a)
   told-carts = (K .tabled .present a i first-below, K .tabled .present b j second-below)
@@ -71,10 +76,10 @@ module _ (U : Unplanned) (T : Tables) (K : Costable U T) (x a : ℕ) (below : x 
   pub told-cost : cost U (timesOf (T .enter)) (timesOf (T .spare)) (orderAt T x a)
       ≡ pos (getD (T .enter) p 0 + getD (T .passing) p 0 + getD (T .cross) z 0) -ℤ pos (getD (T .enter) x 0 + getD (T .spare) x 0)
   unfolding cost
-  told-cost = rw (pair .2, second-at, place, first-at, K .tabled .passing-is a i first-below, K .tabled .cross-is z) (less-both _ (getD (T .enter) x 0) (getD (T .spare) x 0))
+  told-cost = rw (pair .2, second-at, place, first-at, K .tabled .passing-is a i first-below, K .tabled .cross-is z zone-below) (less-both _ (getD (T .enter) x 0) (getD (T .spare) x 0))
 
 -- whether one candidate is taken over another
-pub told-taken : (U : Unplanned) (T : Tables) → Tabled U T → (x a : ℕ) (v : ℤ) (r : Choice) → OfCarts U (orderAt T x a) → OfCarts U (orderAt T (r .step) (r .first))
+pub told-taken : (U : Unplanned) (T : Tables) → Tabled U (T .zone) (T .cross) (T .passing) (T .rank) (T .visit) → (x a : ℕ) (v : ℤ) (r : Choice) → OfCarts U (orderAt T x a) → OfCarts U (orderAt T (r .step) (r .first))
     → isTakenAt (T .zone) (T .rank) x a v r ≡ isTakenOver U (record { order = orderAt T x a; cost = v }) (chosen T r)
 unfolding winsTie isTakenOver
 told-taken U T K x a v r (f, s) (g, t) = rw (K .rank-is a f, K .rank-is (x / 8) s, K .rank-is (r .first) g, K .rank-is (r .step / 8) t)

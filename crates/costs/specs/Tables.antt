@@ -1,17 +1,18 @@
 -- Candidates as tables hold them. Step j of cart c stands at 8 * c + j: there `undecided` holds the set of the carts with which the step is undecided.
 -- `visit` holds at 16 * z + c the place of cart c's step in zone z, and `rank` the carts' ranks.
-use Prim.Native.Nat.{ℕ, _+_, _*_, _/_, _%_, _<_}
+use Prim.Native.Nat.{ℕ, _+_, _*_, _/_, _%_, _≤_, _<_}
 use mathlib.Core.Path.{_≡_}
-use mathlib.Core.Bool.{Bool, true}
+use mathlib.Core.Bool.{Bool, true, false}
 use mathlib.Core.List.{List, []}
 use lib.ListN.{length, getD}
 use lib.IntN.{ℤ, pos, negsuc, _-ℤ_}
-use lib.Signed.{ltZ, _≤ℤ_}
+use lib.Signed.{_≤ℤ_}
 use lib.Dec.{ltb}
 use Rattle.sets.specs.Member.{has}
 use Rattle.routes.specs.Lists.{Distinct}
 use Rattle.entering.specs.Times.{AtMost}
 use Rattle.removal.specs.Pairs.{Unplanned, Order, rank, isPair}
+use Rattle.removal.specs.Present.{isUndecided}
 use Rattle.removal.specs.Cost.{level}
 
 pub record Tables : Type 0 where
@@ -75,18 +76,26 @@ module _ (U : Unplanned) where
   abbrev pub route : ℕ → List ℕ
   route c = getD (U .routes) c []
 
-  -- T's tables of routes and ranks are U's
-  pub record Tabled (T : Tables) : Type 0 where
+  -- these are U's tables of routes, gaps and ranks
+  pub record Tabled (zone cross passing ranks visit : List ℕ) : Type 0 where
+    pub carts-most : U .carts ≤ 16
+    pub steps-most : (c : ℕ) → length (route c) ≤ 8
     pub present : (c j : ℕ) → j < length (route c) → c < U .carts
     pub once : (c : ℕ) → Distinct (route c)
-    pub zone-is : (c j : ℕ) → j < length (route c) → getD (T .zone) (8 * c + j) 0 ≡ getD (route c) j 0
-    pub visit-is : (c j : ℕ) → j < length (route c) → getD (T .visit) (16 * getD (route c) j 0 + c) 0 ≡ 8 * c + j
-    pub passing-is : (c j : ℕ) → j < length (route c) → getD (T .passing) (8 * c + j) 0 ≡ U .given .passing c j
-    pub cross-is : (z : ℕ) → getD (T .cross) z 0 ≡ U .given .cross z
-    pub rank-is : (c : ℕ) → c < U .carts → getD (T .rank) c 0 ≡ rank U c
+    pub zone-below : (c j : ℕ) → j < length (route c) → getD (route c) j 0 < U .zones
+    pub zone-is : (c j : ℕ) → j < length (route c) → getD zone (8 * c + j) 0 ≡ getD (route c) j 0
+    pub visit-is : (c j : ℕ) → j < length (route c) → getD visit (16 * getD (route c) j 0 + c) 0 ≡ 8 * c + j
+    pub passing-is : (c j : ℕ) → j < length (route c) → getD passing (8 * c + j) 0 ≡ U .given .passing c j
+    pub cross-is : (z : ℕ) → z < U .zones → getD cross z 0 ≡ U .given .cross z
+    pub rank-is : (c : ℕ) → c < U .carts → getD ranks c 0 ≡ rank U c
 
-  -- and what is undecided are pairs of U
+  -- the tables tell U's costs: where something is undecided there is a step of U, and a pair
   pub record Costable (T : Tables) : Type 0 where
-    pub tabled : Tabled T
+    pub tabled : Tabled (T .zone) (T .cross) (T .passing) (T .rank) (T .visit)
     pub is-step : (x a : ℕ) → x < 128 → has (getD (T .undecided) x 0) a ≡ true → x % 8 < length (route (x / 8))
     pub is-pair : (x a : ℕ) → x < 128 → has (getD (T .undecided) x 0) a ≡ true → isPair U (getD (T .zone) x 0) a (x / 8) ≡ true
+
+  -- the table holds for each step the carts with which it is undecided in a group, and nothing elsewhere
+  pub record HoldsUndecided (low high : ℕ) (decided : List Order) (undecided : List ℕ) : Type 0 where
+    pub at-step : (c j d : ℕ) → j < length (route c) → has (getD undecided (8 * c + j) 0) d ≡ isUndecided U low high decided (getD (route c) j 0) d c
+    pub elsewhere : (x d : ℕ) → x < 128 → ¬ (x % 8 < length (route (x / 8))) → has (getD undecided x 0) d ≡ false

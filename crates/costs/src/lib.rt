@@ -12,7 +12,7 @@ pub struct Choice {
     pub first: usize,
 }
 
-// The cost of an order by which B could enter from `clear` on, and need not before `latest`. It may be negative.
+// The cost of "A before B": A's entering + passing + gap, less B's entering and spare time. It may be negative.
 fn cost_of(clear: u32, latest: u32) -> i32
     requires { ⌜ (clear ≤ 18960000) × (latest ≤ 37740000) ⌝ }
     ensures { λ r. ⌜ CostIs clear latest r ⌝ }
@@ -20,7 +20,7 @@ fn cost_of(clear: u32, latest: u32) -> i32
     clear as i32 - latest as i32
 }
 
-// Whether an order of equal cost is taken: by zone, then by the rank of A, then of B.
+// Whether a tie goes to cart a before the cart of the step at x, not to d before that of y: by zone, then by the rank of A, then of B.
 fn wins_tie<'a>(
     zone: &'a [u8; 128],
     rank: &[u8; 16],
@@ -41,7 +41,7 @@ fn wins_tie<'a>(
     rank[x / 8] < rank[y / 8]
 }
 
-// Whether the order of cart a and the step at x, which has this cost, is taken over the choice so far.
+// Whether cart a before the cart of the step at x, at this cost, is taken over the choice so far.
 fn is_taken<'a>(
     zone: &'a [u8; 128],
     rank: &[u8; 16],
@@ -62,7 +62,7 @@ fn is_taken<'a>(
     wins_tie(zone, rank, x, a, most.step, most.first)
 }
 
-// The choice among the candidates of the steps below x, and those of the step at x too.
+// The choice among the candidates of the steps below x is `best`; answers the choice among these and those of the step at x.
 fn largest_at<'a>(
     zone: &'a [u8; 128],
     cross: &'a [u16; 24],

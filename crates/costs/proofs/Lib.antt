@@ -1,0 +1,13 @@
+pub mod Strict
+pub mod Ranks
+pub mod Taken
+pub mod Largest
+pub mod Members
+pub mod Candidates
+pub mod Differences
+pub mod Ties
+pub mod Compared
+pub mod Told
+pub mod Choosing
+pub mod Scanning
+pub mod Group

@@ -1,0 +1,4 @@
+pub mod Sheets
+pub mod Settled
+pub mod Ranks
+pub mod Groups

@@ -1,0 +1,2 @@
+pub mod Unplanned
+pub mod Holds

@@ -7,7 +7,7 @@ use mathlib.Core.List.{List}
 use native.Mathlib.Decide.{decLt}
 use native.Mathlib.Omega.{arith}
 use lib.Dec.{leb, ltb}
-use borrow.Author.Tests.{lt-ltb, le-ltb, le-leb, lt-leb}
+use borrow.Author.Tests.{lt-ltb, le-ltb, le-leb, lt-leb, not-true}
 use Rattle.words.specs.Lists.{pick}
 use Rattle.words.proofs.Tests.{leb-says, ltb-says, and-says, and-both}
 use Rattle.removal.specs.Pairs.{Unplanned, Order, isDecided, rank, visits, sameLane, isPair}
@@ -105,6 +105,13 @@ module _ (U : Unplanned) (z d c : ℕ) where
       go false lane = refl
       go true true = refl
       go true false = refl
+
+  -- two carts that are a pair go as it is ordered
+  pub goes-pair : (low high : ℕ) (decided : List Order) → isPair U z d c ≡ true → goesBefore U low high decided z d c ≡ orderOf low high decided
+  unfolding isPair
+  goes-pair low high decided pair =
+      let (both, apart) = and-both (visits U d z && visits U c z) (not (sameLane U d c)) pair in
+      goes-by low high decided ∙ rw (both, not-true (sameLane U d c) apart)
 
   -- what is more in the order of a pair is more in the orders present
   pub goes-more : (low high low′ high′ : ℕ) (decided decided′ : List Order) (more : Bool)

@@ -42,13 +42,16 @@ undecided-by true false true y b = refl
 undecided-by true false false true b = sym (and-false (not b))
 undecided-by true false false false b = sym (and-true (not b))
 
+pub pair-turned : (U : Unplanned) (z d c : ℕ) → isPair U z d c ≡ isPair U z c d
+unfolding isPair
+pair-turned U z d c = rw (and-comm (visits U d z) (visits U c z), eqb-turned (U .given .lane d) (U .given .lane c))
+
 module _ (U : Unplanned) (low high : ℕ) (decided : List Order) where
   -- a pair is undecided whichever cart is named first
   pub undecided-turned : (z d c : ℕ) → isUndecided U low high decided z d c ≡ isUndecided U low high decided z c d
-  unfolding isUndecided isPair
+  unfolding isUndecided
   undecided-turned z d c = rw (
-    and-comm (visits U d z) (visits U c z),
-    eqb-turned (U .given .lane d) (U .given .lane c),
+    pair-turned U z d c,
     and-comm (inGroup low high (rank U d)) (inGroup low high (rank U c)),
     or-comm (isDecided decided z d c) (isDecided decided z c d),
   )

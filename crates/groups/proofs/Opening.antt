@@ -13,7 +13,6 @@ use Rattle.words.proofs.Tests.{and-both}
 use Rattle.sets.specs.Member.{has, Less}
 use Rattle.sets.specs.Counting.{setBelow}
 use Rattle.sets.proofs.Laws.{has-none, has-same}
-use Rattle.sets.proofs.Counting.{has-set}
 use Rattle.routes.specs.Crossing.{steps, zone}
 use Rattle.routes.proofs.Places.{named-says}
 use Rattle.removal.specs.Pairs.{Unplanned, Order, rank, visits, sameLane, isPair}
@@ -25,6 +24,7 @@ use Rattle.orders_present.proofs.Added.{pair-turned}
 use Rattle.orders_present.proofs.Groups.{opens-before, opens-undecided, none-undecided}
 use Rattle.groups.specs.Pairs.{HasRanks, HasPairs}
 use Rattle.groups.specs.Opening.{Joined, JoinedTo, Opens}
+use Rattle.groups.proofs.Sets.{set-has}
 
 -- ---- place by place
 
@@ -82,7 +82,7 @@ module _ (low high : ℕ) (ranks pairs : List ℕ) (from above within : ℕ)
     (within-is : Less from above within) where
   module _ (U : Unplanned) (has-ranks : HasRanks U ranks) (c : ℕ) (l : c < 16) where
     at-least : (least set : ℕ) → set ≡ setBelow 16 (λ d. leb least (getD ranks d 0)) → has set c ≡ leb least (rank U c)
-    at-least least set is = rw is (has-set 16 _ c l ∙ ap (leb least) (has-ranks .at-cart c l))
+    at-least least set is = set-has 16 _ set is c l ∙ ap (leb least) (has-ranks .at-cart c l)
 
     above-says : has above c ≡ leb high (rank U c)
     above-says = at-least high above above-is

@@ -60,12 +60,15 @@ joined-off old more among d = sym (or-false (has old d))
 
 -- ---- a set of the first n numbers that pass a test
 
-has-all : (n : ℕ) (test : ℕ → Bool) (i : ℕ) → has (setBelow n test) i ≡ (ltb i n && test i)
+pub has-all : (n : ℕ) (test : ℕ → Bool) (i : ℕ) → has (setBelow n test) i ≡ (ltb i n && test i)
 has-all n test i = go (decLt i n)
   where
     go : Dec (i < n) → has (setBelow n test) i ≡ (ltb i n && test i)
     go (yes l) = has-set n test i l ∙ rw (lt-ltb i n l)
     go (no m) = let past : n ≤ i = omega (arith, m) in has-above n (setBelow n test) i (set-fits n test) past ∙ rw (le-ltb i n past)
+
+pub set-has : (n : ℕ) (test : ℕ → Bool) (set : ℕ) → set ≡ setBelow n test → (i : ℕ) → i < n → has set i ≡ test i
+set-has n test set is i l = rw is (has-set n test i l)
 
 set-more : (n : ℕ) (test : ℕ → Bool) (r : ℕ) → test n ≡ true → With (setBelow n test) n r → r ≡ setBelow (n + 1) test
 set-more n test r passes with-n = has-same r (setBelow (n + 1) test) (λ i. with-n i ∙ ap (λ (b : Bool). b || eqb i n) (has-all n test i) ∙ go i (ℕ-discrete i n) ∙ sym (has-all (n + 1) test i))

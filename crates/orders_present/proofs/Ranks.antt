@@ -1,5 +1,5 @@
 -- The order of a pair by where its two ranks stand to the group.
-use Prim.Native.Nat.{ℕ, _≤_, _<_}
+use Prim.Native.Nat.{ℕ, zero-le, _≤_, _<_}
 use mathlib.Core.Path.{_≡_, refl, sym, ap, _∙_}
 use mathlib.Core.Logic.{_↔_}
 use mathlib.Core.Bool.{Bool, true, false, false≢true, not, _&&_, _||_, or-false}
@@ -102,6 +102,18 @@ module _ (U : Unplanned) (z d c : ℕ) where
     where
       go : (both lane : Bool) → _≡_ {A = Bool} (elim both [ false ↦ false | true ↦ elim lane [ true ↦ ltb d c | false ↦ orderOf low high decided ] ])
           (byLane both lane (ltb d c) (orderOf low high decided))
+      go false lane = refl
+      go true true = refl
+      go true false = refl
+
+  -- at the start no pair is ordered: carts of one lane go by number
+  pub start-before : (decided : List Order) → goesBefore U 0 0 decided z d c ≡ ((visits U d z && visits U c z) && (sameLane U d c && ltb d c))
+  unfolding pairOrder
+  start-before decided =
+      goes-by 0 0 decided
+      ∙ rw (le-ltb (rank U d) 0 zero-le, le-leb 0 (rank U d) zero-le, le-leb 0 (rank U c) zero-le) (go (visits U d z && visits U c z) (sameLane U d c))
+    where
+      go : (both lane : Bool) → byLane both lane (ltb d c) false ≡ (both && (lane && ltb d c))
       go false lane = refl
       go true true = refl
       go true false = refl

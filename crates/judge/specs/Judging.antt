@@ -65,26 +65,31 @@ module _ (sheet : Sheet) (orders : Orders) where
 abbrev pub notJudged : Outcome → Ring → Judged
 notJudged outcome ring = record { outcome = outcome; finish = 0; moves = 0; ring = ring }
 
+module _ (sheet : Sheet) (orders : Orders) where
+  -- "plan is locked", "lent room too short"
+  abbrev pub verdictChecks : ℕ → List Check
+  verdictChecks room = check 22 0 (isOut sheet orders) ∷ check 28 0 (leb 128 room) ∷ []
+
+  -- "22 from the judge also returns the ring"
+  abbrev pub judgeRefused : Outcome → Judged
+  judgeRefused outcome = notJudged outcome (pick (eqb (outcome .number) 22) (lockedRing sheet orders) noRing)
+
+  -- the words with the times at their start: "words beyond untouched"
+  abbrev pub withTimes : List ℕ → List ℕ
+  withTimes words = timeWords sheet orders ++ drop 128 words
+
 module _ (s p : List ℕ) where
   abbrev pub ordersRead : Orders
   ordersRead = ordersOf (sheetOf s) p
 
-  -- "Judging has 1 to 22 and 28": "plan is locked", "lent room too short"
+  -- "Judging has 1 to 22 and 28"
   abbrev pub judgingChecks : ℕ → List Check
-  judgingChecks room =
-      readingChecks s p
-      ++ (check 22 0 (isOut (sheetOf s) ordersRead) ∷ [])
-      ++ (check 28 0 (leb 128 room) ∷ [])
-
-  -- "22 from the judge also returns the ring"
-  abbrev pub judgeRefused : Outcome → Judged
-  judgeRefused outcome = notJudged outcome (pick (eqb (outcome .number) 22) (lockedRing (sheetOf s) ordersRead) noRing)
+  judgingChecks room = readingChecks s p ++ verdictChecks (sheetOf s) ordersRead room
 
   -- what judging answers, with room for so many words
   unfoldable pub judge : ℕ → Judged
-  judge room = firstFailing judgeRefused (judged (sheetOf s) ordersRead) (judgingChecks room)
+  judge room = firstFailing (judgeRefused (sheetOf s) ordersRead) (judged (sheetOf s) ordersRead) (judgingChecks room)
 
-  -- what the words lent then hold: "words beyond untouched", and on refusal what they held
+  -- what the words lent then hold: on refusal what they held
   unfoldable pub wordsAfter : List ℕ → List ℕ
-  wordsAfter words =
-      firstFailing (λ _. words) (timeWords (sheetOf s) ordersRead ++ drop 128 words) (judgingChecks (length words))
+  wordsAfter words = firstFailing (λ _. words) (withTimes (sheetOf s) ordersRead words) (judgingChecks (length words))

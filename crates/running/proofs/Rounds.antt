@@ -3,18 +3,20 @@ use Prim.Native.Nat.{ℕ, zero, suc, _+_, _*_, _-_, _≤_, _<_, min, zero-le}
 use mathlib.Core.Path.{_≡_, refl, sym, ap, subst, _∙_}
 use mathlib.Core.Logic.{⊎-elim}
 use mathlib.Core.Bool.{false≢true}
-use mathlib.Core.List.{List, [], _∷_}
-use native.Mathlib.Nat.{eq-or-lt-of-le, le-of-suc-le-suc}
+use mathlib.Core.List.{List, [], _∷_, _++_}
+use native.Mathlib.Nat.{eq-or-lt-of-le, le-of-suc-le-suc, le-refl}
+use native.Mathlib.Numerals.{add-one}
 use native.Mathlib.Omega.{arith}
-use lib.ListN.{length, replicate, length-replicate}
+use lib.ListN.{length, set, take, replicate, length-set, length-replicate}
+use lib.Seq.{take-suc-set}
 use Rattle.sets.proofs.Laws.{has-none}
-use Rattle.moves.specs.System.{System, carts, pos, start, sum}
-use Rattle.moves.specs.Moves.{Permitted}
-use Rattle.moves.specs.Runs.{Stuck}
+use Rattle.moves.specs.System.{System, carts, pos, start, InRange, sum}
+use Rattle.moves.specs.Moves.{moved, Permitted}
+use Rattle.moves.specs.Runs.{after, Stuck}
 use Rattle.moves.specs.Records.{Reached}
-use Rattle.moves.proofs.Positions.{moved-same, moved-sum, zeros-pos, zeros-sum}
+use Rattle.moves.proofs.Positions.{moved-same, zeros-pos, zeros-sum}
 use Rattle.moves.proofs.Moves.{permitted-cart}
-use Rattle.moves.proofs.Runs.{start-in-range, reaches-here}
+use Rattle.moves.proofs.Runs.{after-append, start-in-range, moved-in-range, run-append, permitted-sum, reaches-here}
 use Rattle.moves.proofs.Ends.{end-unique}
 use Rattle.routes.specs.Crossing.{Crossing, steps}
 use Rattle.routes.specs.Moves.{movesOf, system}
@@ -23,7 +25,7 @@ use Rattle.times.specs.Times.{Given}
 use Rattle.crossing.specs.Sound.{Sound}
 use Rattle.running.specs.Settled.{SettlesAs}
 use Rattle.one_move.specs.Running.{Running, HasMoved}
-use Rattle.running.specs.Rounds.{Advanced, Swept}
+use Rattle.running.specs.Rounds.{Underway, Onward, Advanced, Swept}
 use Rattle.one_move.proofs.Moving.{in-range}
 
 sum-most : (list : List ℕ) (most : ℕ) → ((c : ℕ) → pos list c ≤ most) → sum list ≤ most * length list
@@ -40,91 +42,120 @@ module _ (X : Crossing) (G : Given) where
 
   -- ---- how far carts can be
 
-  module _ (at left leave enter : List ℕ) (run : Running X G at left leave enter) where
+  module _ (sound : Sound X G) (at : List ℕ) (here : InRange S at) where
     place-most : (c : ℕ) → pos at c ≤ 9
-    place-most c =
-        omega (arith, in-range X G at left leave enter run .within c, out-are X c, moves-most (steps X c), run .sound .ranged .steps-most c)
+    place-most c = omega (arith, here .within c, out-are X c, moves-most (steps X c), sound .ranged .steps-most c)
 
     places-few : length at ≤ 16
-    places-few = omega (arith, in-range X G at left leave enter run .sized, carts-are X, run .sound .ranged .carts-most)
+    places-few = omega (arith, here .sized, carts-are X, sound .ranged .carts-most)
 
     sum-few : sum at ≤ 144
     sum-few = omega (arith, sum-most at 9 place-most, places-few)
 
     cart-inside : (c : ℕ) → Permitted S at c → c < length at
-    cart-inside c m = omega (arith, permitted-cart S at c m, in-range X G at left leave enter run .sized)
+    cart-inside c m = omega (arith, permitted-cart S at c m, here .sized)
 
     permitted-16 : (c : ℕ) → Permitted S at c → c < 16
     permitted-16 c m = omega (arith, cart-inside c m, places-few)
 
-  -- ---- one cart moves on
+  -- ---- one move more
 
-  -- cart c has moved on from `old`, so far `made` moves
-  pub record Onward (old at left leave enter : List ℕ) (made : ℕ) : Type 0 where
-    pub running : Running X G at left leave enter
-    pub counted : sum at ≡ sum old + made
-    pub none-made : made ≡ 0 → at ≡ old
+  module _ (at left leave enter order : List ℕ) (made : ℕ) (on : Underway X G at left leave enter order made) where
+    here : InRange S at
+    here = in-range X G at left leave enter (on .running)
 
-  pub onward-start : (at left leave enter : List ℕ) → Running X G at left leave enter → Onward at at left leave enter 0
-  onward-start at left leave enter run = record { running = run; counted = omega arith; none-made = λ _. refl }
+    underway-few : made ≤ 144
+    underway-few = omega (arith, on .counted, sum-few (on .running .sound) at here)
 
-  module _ (old at left leave enter : List ℕ) (made : ℕ) (on : Onward old at left leave enter made) where
-    pub made-few : made ≤ 144
-    made-few = omega (arith, on .counted, sum-few at left leave enter (on .running))
+    module _ (c : ℕ) (m : Permitted S at c) where
+      -- a move that is left has its place in the table
+      underway-room : made < 144
+      underway-room =
+          omega (arith, on .counted, permitted-sum S at c here m, sum-few (on .running .sound) (moved at c) (moved-in-range S at c here m))
 
-    pub onward-end : (c : ℕ) → ¬ (Permitted S at c) → Advanced X G old at left leave enter c made
-    onward-end c held = record { running = on .running; counted = on .counted; none-made = on .none-made; held-or-out = held }
+      stored-run : take (made + 1) (set order made c) ≡ take made order ++ (c ∷ [])
+      stored-run = rw (add-one made) (take-suc-set order made c (omega (arith, on .order-144, underway-room)))
 
-    module _ (next left′ leave′ enter′ : List ℕ) (c : ℕ) (m : Permitted S at c) (has : HasMoved X G at next left′ leave′ enter′ c) where
-      pub onward-turn : Onward old next left′ leave′ enter′ (made + 1)
-      onward-turn = record {
+      underway-turn : (next left′ leave′ enter′ : List ℕ) → HasMoved X G at next left′ leave′ enter′ c
+          → Underway X G next left′ leave′ enter′ (set order made c) (made + 1)
+      underway-turn next left′ leave′ enter′ has = record {
         running = has .running;
-        counted = omega (arith, ap sum (has .at-is), moved-sum at c (cart-inside at left leave enter (on .running) c m), on .counted);
-        none-made = λ e. absurd (omega (arith, e));
+        counted = omega (arith, on .counted, ap sum (has .at-is), permitted-sum S at c here m);
+        order-144 = length-set order made c ∙ on .order-144;
+        is-run = rw stored-run (run-append S (start S) (take made order) (c ∷ []) (on .is-run) (rw (on .run-ends) (m, tt)));
+        run-ends =
+            ap (after (start S)) stored-run ∙ after-append (start S) (take made order) (c ∷ []) ∙ ap (λ (s : List ℕ). moved s c) (on .run-ends) ∙ sym (has .at-is);
       }
 
-      -- a cart comes to at most 9
-      pub onward-less : 9 - pos next c < 9 - pos at c
-      onward-less =
-          let further : pos next c ≡ suc (pos at c) = ap (λ (s : List ℕ). pos s c) (has .at-is) ∙ moved-same at c (cart-inside at left leave enter (on .running) c m) in
-          omega (arith, place-most next left′ leave′ enter′ (has .running) c)
+  -- ---- one cart moves on
+
+  pub onward-start : (at left leave enter order : List ℕ) (made : ℕ) → Underway X G at left leave enter order made
+      → Onward X G at at left leave enter order made made
+  onward-start at left leave enter order made on = record { underway = on; no-fewer = le-refl made; none-made = λ _. refl }
+
+  module _ (old at left leave enter order : List ℕ) (before made : ℕ) (on : Onward X G old at left leave enter order before made) where
+    pub onward-end : (c : ℕ) → ¬ (Permitted S at c) → Advanced X G old at left leave enter order c before made
+    onward-end c held = record { onward = on; held-or-out = held }
+
+    module _ (c : ℕ) (m : Permitted S at c) where
+      pub onward-room : made < 144
+      onward-room = underway-room at left leave enter order made (on .underway) c m
+
+      module _ (next left′ leave′ enter′ : List ℕ) (has : HasMoved X G at next left′ leave′ enter′ c) where
+        pub onward-turn : Onward X G old next left′ leave′ enter′ (set order made c) before (made + 1)
+        onward-turn = record {
+          underway = underway-turn at left leave enter order made (on .underway) c m next left′ leave′ enter′ has;
+          no-fewer = omega (arith, on .no-fewer);
+          none-made = λ e. absurd (omega (arith, e, on .no-fewer));
+        }
+
+        -- a cart comes to at most 9
+        pub onward-less : 9 - pos next c < 9 - pos at c
+        onward-less =
+            let inside = cart-inside (has .running .sound) at (here at left leave enter order made (on .underway)) c m in
+            let further : pos next c ≡ suc (pos at c) = ap (λ (s : List ℕ). pos s c) (has .at-is) ∙ moved-same at c inside in
+            omega (arith, place-most (has .running .sound) next (in-range X G next left′ leave′ enter′ (has .running)) c)
 
   -- ---- every cart in turn
 
-  -- the carts below c have moved on from `old`, `made` moves in all
-  pub record Sweeping (old at left leave enter : List ℕ) (made c : ℕ) : Type 0 where
-    pub running : Running X G at left leave enter
-    pub counted : sum at ≡ sum old + made
-    pub none-yet : made ≡ 0 → (d : ℕ) → d < c → ¬ (Permitted S at d)
+  -- the carts below c have moved on, where `before` moves were made; now `made` are
+  pub record Sweeping (at left leave enter order : List ℕ) (before made c : ℕ) : Type 0 where
+    pub underway : Underway X G at left leave enter order made
+    pub no-fewer : before ≤ made
+    pub none-yet : made ≡ before → (d : ℕ) → d < c → ¬ (Permitted S at d)
 
-  pub sweeping-start : (at left leave enter : List ℕ) → Running X G at left leave enter → Sweeping at at left leave enter 0 0
-  sweeping-start at left leave enter run = record { running = run; counted = omega arith; none-yet = λ _ d below. absurd (omega (arith, below)) }
+  pub sweeping-start : (at left leave enter order : List ℕ) (made : ℕ) → Underway X G at left leave enter order made
+      → Sweeping at left leave enter order made made 0
+  sweeping-start at left leave enter order made on = record {
+    underway = on;
+    no-fewer = le-refl made;
+    none-yet = λ _ d below. absurd (omega (arith, below));
+  }
 
-  module _ (old at left leave enter : List ℕ) (made c : ℕ) (on : Sweeping old at left leave enter made c) where
-    pub sweeping-turn : (next left′ leave′ enter′ : List ℕ) (more : ℕ) → Advanced X G at next left′ leave′ enter′ c more
-        → Sweeping old next left′ leave′ enter′ (made + more) (c + 1)
-    sweeping-turn next left′ leave′ enter′ more has = record {
-      running = has .running;
-      counted = omega (arith, has .counted, on .counted);
+  module _ (at left leave enter order : List ℕ) (before made c : ℕ) (on : Sweeping at left leave enter order before made c) where
+    pub sweeping-turn : (next left′ leave′ enter′ order′ : List ℕ) (total : ℕ) → Advanced X G at next left′ leave′ enter′ order′ c made total
+        → Sweeping next left′ leave′ enter′ order′ before total (c + 1)
+    sweeping-turn next left′ leave′ enter′ order′ total has = record {
+      underway = has .onward .underway;
+      no-fewer = omega (arith, has .onward .no-fewer, on .no-fewer);
       none-yet = λ none d below.
           ⊎-elim (λ (same : d ≡ c). rw same (has .held-or-out))
-          (λ (before : d < c). rw (has .none-made (omega arith)) (on .none-yet (omega arith) d before))
+          (λ (lower : d < c).
+          rw (has .onward .none-made (omega (arith, none, has .onward .no-fewer, on .no-fewer)))
+          (on .none-yet (omega (arith, none, has .onward .no-fewer, on .no-fewer)) d lower))
           (eq-or-lt-of-le (le-of-suc-le-suc (below-suc d below)));
     }
       where
         below-suc : (d : ℕ) → d < c + 1 → d < suc c
         below-suc d h = omega arith
 
-    pub sweeping-end : 16 ≤ c → Swept X G old at left leave enter made
+    pub sweeping-end : 16 ≤ c → Swept X G at left leave enter order before made
     sweeping-end all = record {
-      running = on .running;
-      counted = on .counted;
-      none-left = λ none d m. on .none-yet none d (omega (arith, permitted-16 at left leave enter (on .running) d m)) m;
+      underway = on .underway;
+      no-fewer = on .no-fewer;
+      none-left = λ none d m.
+          on .none-yet none d (omega (arith, permitted-16 (on .underway .running .sound) at (here at left leave enter order made (on .underway)) d m)) m;
     }
-
-    pub sweeping-few : (next left′ leave′ enter′ : List ℕ) (more : ℕ) → Advanced X G at next left′ leave′ enter′ c more → made + more ≤ 144
-    sweeping-few next left′ leave′ enter′ more has =
-        omega (arith, has .counted, on .counted, sum-few next left′ leave′ enter′ (has .running))
 
   -- ---- until nothing moves
 
@@ -148,36 +179,47 @@ module _ (X : Crossing) (G : Given) where
     not-entered = λ c p _ _. zeros-pos enter (8 * c + p);
   }
 
-  -- `made` moves are made, `last` of them in the last turn of all carts
-  pub record Settling (at left leave enter : List ℕ) (made last : ℕ) : Type 0 where
-    pub running : Running X G at left leave enter
-    pub counted : made ≡ sum at
+  -- `last` moves were made in the last turn of all carts
+  pub record Settling (at left leave enter order : List ℕ) (made last : ℕ) : Type 0 where
+    pub underway : Underway X G at left leave enter order made
     pub none-left : last ≡ 0 → Stuck S at
 
-  pub settling-start : (lanes : ℕ) (left leave enter : List ℕ) → Running X G (replicate lanes 0) left leave enter
-      → Settling (replicate lanes 0) left leave enter 0 1
-  settling-start lanes left leave enter run = record { running = run; counted = sym (zeros-sum lanes); none-left = λ e. absurd (omega (arith, e)) }
+  pub settling-start : (lanes : ℕ) (left leave enter order : List ℕ) → carts S ≡ lanes → length order ≡ 144 → Running X G (replicate lanes 0) left leave enter
+      → Settling (replicate lanes 0) left leave enter order 0 1
+  settling-start lanes left leave enter order all size run = record {
+    underway = record {
+      running = run;
+      counted = sym (zeros-sum lanes);
+      order-144 = size;
+      is-run = tt;
+      run-ends = ap (λ (n : ℕ). replicate n 0) all;
+    };
+    none-left = λ e. absurd (omega (arith, e));
+  }
 
-  module _ (at left leave enter : List ℕ) (made last : ℕ) (on : Settling at left leave enter made last) where
-    pub settling-end : last ≤ 0 → SettlesAs X G at left enter made
-    settling-end done = record {
-      at-end = end-unique S (start S) at (start-in-range S) (on .running .reached) (on .none-left (omega arith));
-      left-24 = on .running .left-24;
-      left-is = on .running .left-is;
-      counted = on .counted;
-      enter-128 = on .running .enter-128;
-      enter-is = on .running .enter-is;
-      enter-most = on .running .enter-most;
-      not-entered = on .running .not-entered;
-    }
+  module _ (at left leave enter order : List ℕ) (made last : ℕ) (on : Settling at left leave enter order made last) where
+    pub settling-end : last ≤ 0 → SettlesAs X G at left enter order made
+    settling-end done =
+        let run = on .underway .running in
+        record {
+          at-end = end-unique S (start S) at (start-in-range S) (run .reached) (on .none-left (omega arith));
+          left-24 = run .left-24;
+          left-is = run .left-is;
+          counted = on .underway .counted;
+          enter-128 = run .enter-128;
+          enter-is = run .enter-is;
+          enter-most = run .enter-most;
+          not-entered = run .not-entered;
+          few = underway-few at left leave enter order made (on .underway);
+          order-144 = on .underway .order-144;
+          is-run = on .underway .is-run;
+          run-ends = on .underway .run-ends;
+        }
 
-    module _ (next left′ leave′ enter′ : List ℕ) (more : ℕ) (has : Swept X G at next left′ leave′ enter′ more) where
-      pub settling-few : made + more ≤ 144
-      settling-few = omega (arith, on .counted, has .counted, sum-few next left′ leave′ enter′ (has .running))
-
-      pub settling-turn : Settling next left′ leave′ enter′ (made + more) more
-      settling-turn = record { running = has .running; counted = omega (arith, on .counted, has .counted); none-left = has .none-left }
+    module _ (next left′ leave′ enter′ order′ : List ℕ) (total : ℕ) (has : Swept X G next left′ leave′ enter′ order′ made total) where
+      pub settling-turn : Settling next left′ leave′ enter′ order′ total (total - made)
+      settling-turn = record { underway = has .underway; none-left = λ none. has .none-left (omega (arith, none, has .no-fewer)) }
 
       -- a turn that moves carts leaves fewer moves to make, and one that moves none is the last
-      pub settling-less : 0 < last → 144 - (made + more) + min 1 more < 144 - made + min 1 last
-      settling-less h = omega (arith, settling-few)
+      pub settling-less : 0 < last → 144 - total + min 1 (total - made) < 144 - made + min 1 last
+      settling-less h = omega (arith, has .no-fewer, underway-few next left′ leave′ enter′ order′ total (has .underway))

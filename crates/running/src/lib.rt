@@ -2,14 +2,13 @@ use one_move::make_move;
 use one_move::may_move;
 ghost use mathlib.Core.Path.{_≡_};
 ghost use Prim.Native.Nat.{_<_};
-ghost use lib.ListN.{replicate};
+ghost use lib.ListN.{length, replicate};
 ghost use Rattle.crossing.specs.Tables.{crossingOf, givenOf};
 ghost use Rattle.crossing.specs.Sound.{Sound};
-ghost use Rattle.one_move.specs.Running.{Running};
-ghost use Rattle.running.specs.Rounds.{Advanced, Swept};
+ghost use Rattle.running.specs.Rounds.{Underway, Advanced, Swept};
 ghost use Rattle.running.specs.Settled.{SettlesAs};
 
-// Cart c moves on as far as it may; answers how many moves it made.
+// Cart c moves on as far as it may, and is stored in the table for each of its moves; answers how many moves are made in all.
 fn advance<'a>(
     steps: &'a [u8; 16],
     zone: &'a [u8; 128],
@@ -24,13 +23,16 @@ fn advance<'a>(
     left: &mut [u16; 24],
     leave: &mut [u32; 384],
     enter: &mut [u32; 128],
+    order: &mut [u8; 144],
     c: usize,
+    before: usize,
 ) -> usize
-    requires { ⌜ Running (crossingOf (now steps) (now zone) (now ahead)) (givenOf (now lane) (now arrival) (now passing) (now travel) (now follow) (now cross)) (now at) (now left) (now leave) (now enter) × (c < 16) ⌝ }
-    ensures { λ r. ⌜ Advanced (crossingOf (now (steps .entry)) (now (zone .entry)) (now (ahead .entry))) (givenOf (now (lane .entry)) (now (arrival .entry)) (now (passing .entry)) (now (travel .entry)) (now (follow .entry)) (now (cross .entry))) (now (at .entry)) (now (at .exit)) (now (left .exit)) (now (leave .exit)) (now (enter .exit)) c r ⌝ }
+    requires { ⌜ Underway (crossingOf (now steps) (now zone) (now ahead)) (givenOf (now lane) (now arrival) (now passing) (now travel) (now follow) (now cross)) (now at) (now left) (now leave) (now enter) (now order) before × (c < 16) ⌝ }
+    ensures { λ r. ⌜ Advanced (crossingOf (now (steps .entry)) (now (zone .entry)) (now (ahead .entry))) (givenOf (now (lane .entry)) (now (arrival .entry)) (now (passing .entry)) (now (travel .entry)) (now (follow .entry)) (now (cross .entry))) (now (at .entry)) (now (at .exit)) (now (left .exit)) (now (leave .exit)) (now (enter .exit)) (now (order .exit)) c before r ⌝ }
 {
-    let mut made = 0;
+    let mut made = before;
     while may_move(steps, zone, ahead, at, left, c) {
+        order[made] = c as u8;
         make_move(
             steps,
             zone,
@@ -52,7 +54,7 @@ fn advance<'a>(
     made
 }
 
-// Every cart in turn moves on as far as it may; answers how many moves they made.
+// Every cart in turn moves on as far as it may; answers how many moves are made in all.
 fn sweep<'a>(
     steps: &'a [u8; 16],
     zone: &'a [u8; 128],
@@ -67,14 +69,16 @@ fn sweep<'a>(
     left: &mut [u16; 24],
     leave: &mut [u32; 384],
     enter: &mut [u32; 128],
+    order: &mut [u8; 144],
+    before: usize,
 ) -> usize
-    requires { ⌜ Running (crossingOf (now steps) (now zone) (now ahead)) (givenOf (now lane) (now arrival) (now passing) (now travel) (now follow) (now cross)) (now at) (now left) (now leave) (now enter) ⌝ }
-    ensures { λ r. ⌜ Swept (crossingOf (now (steps .entry)) (now (zone .entry)) (now (ahead .entry))) (givenOf (now (lane .entry)) (now (arrival .entry)) (now (passing .entry)) (now (travel .entry)) (now (follow .entry)) (now (cross .entry))) (now (at .entry)) (now (at .exit)) (now (left .exit)) (now (leave .exit)) (now (enter .exit)) r ⌝ }
+    requires { ⌜ Underway (crossingOf (now steps) (now zone) (now ahead)) (givenOf (now lane) (now arrival) (now passing) (now travel) (now follow) (now cross)) (now at) (now left) (now leave) (now enter) (now order) before ⌝ }
+    ensures { λ r. ⌜ Swept (crossingOf (now (steps .entry)) (now (zone .entry)) (now (ahead .entry))) (givenOf (now (lane .entry)) (now (arrival .entry)) (now (passing .entry)) (now (travel .entry)) (now (follow .entry)) (now (cross .entry))) (now (at .exit)) (now (left .exit)) (now (leave .exit)) (now (enter .exit)) (now (order .exit)) before r ⌝ }
 {
-    let mut made = 0;
+    let mut made = before;
     let mut c = 0;
     while c < 16 {
-        made += advance(
+        made = advance(
             steps,
             zone,
             ahead,
@@ -88,7 +92,9 @@ fn sweep<'a>(
             left,
             leave,
             enter,
+            order,
             c,
+            made,
         );
         c += 1;
     }
@@ -102,7 +108,7 @@ pub struct Settled {
     pub made: usize,
 }
 
-// Permitted moves are made until none is left. The table lent is all 0 and takes the entering times of the steps entered.
+// Permitted moves are made until none is left. `enter` is all 0 and takes the entering times of the steps entered, `order` the cart of each move.
 pub fn settle<'a>(
     steps: &'a [u8; 16],
     zone: &'a [u8; 128],
@@ -114,9 +120,10 @@ pub fn settle<'a>(
     follow: &'a [u16; 24],
     cross: &'a [u16; 24],
     enter: &mut [u32; 128],
+    order: &mut [u8; 144],
 ) -> Settled
-    requires { ⌜ Sound (crossingOf (now steps) (now zone) (now ahead)) (givenOf (now lane) (now arrival) (now passing) (now travel) (now follow) (now cross)) × (now enter ≡ replicate 128 0) ⌝ }
-    ensures { λ r. ⌜ SettlesAs (crossingOf (now (steps .entry)) (now (zone .entry)) (now (ahead .entry))) (givenOf (now (lane .entry)) (now (arrival .entry)) (now (passing .entry)) (now (travel .entry)) (now (follow .entry)) (now (cross .entry))) (r .at) (r .left) (now (enter .exit)) (r .made) ⌝ }
+    requires { ⌜ Sound (crossingOf (now steps) (now zone) (now ahead)) (givenOf (now lane) (now arrival) (now passing) (now travel) (now follow) (now cross)) × (now enter ≡ replicate 128 0) × (length (now order) ≡ 144) ⌝ }
+    ensures { λ r. ⌜ SettlesAs (crossingOf (now (steps .entry)) (now (zone .entry)) (now (ahead .entry))) (givenOf (now (lane .entry)) (now (arrival .entry)) (now (passing .entry)) (now (travel .entry)) (now (follow .entry)) (now (cross .entry))) (r .at) (r .left) (now (enter .exit)) (now (order .exit)) (r .made) ⌝ }
 {
     let mut at = [0u8; 16];
     let mut left = [0u16; 24];
@@ -124,7 +131,7 @@ pub fn settle<'a>(
     let mut made = 0;
     let mut moved = 1;
     while 0 < moved {
-        moved = sweep(
+        let total = sweep(
             steps,
             zone,
             ahead,
@@ -138,8 +145,11 @@ pub fn settle<'a>(
             &mut left,
             &mut leave,
             enter,
+            order,
+            made,
         );
-        made += moved;
+        moved = total - made;
+        made = total;
     }
     Settled { at, left, made }
 }

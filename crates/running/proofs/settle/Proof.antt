@@ -1,38 +1,37 @@
 -- The loop keeps the moves made so far; a turn of all carts in which none moves ends it.
 use Prim.Native.Nat.{_+_, _-_, min}
 use mathlib.Core.Path.{refl}
-use native.Mathlib.Omega.{arith}
 use Rattle.crossing.specs.Tables.{crossingOf, givenOf}
 use Rattle.crossing.proofs.Tables.{carts-16}
-use Rattle.running.proofs.Rounds.{running-start, Settling, settling-start, settling-end, settling-few, settling-turn, settling-less}
+use Rattle.running.proofs.Rounds.{running-start, Settling, settling-start, settling-end, settling-turn, settling-less}
 use Rattle.running.proofs.settle.Statement.{statement}
 use Rattle.running.proofs.settle.Tie as tie
 
 abbrev Inv-loop : tie.InvT-loop
-Inv-loop steps zone ahead lane arrival passing travel follow cross enter₀ at₀ left₀ leave₀ made₀ moved₀ enter at left leave made moved = Settling (crossingOf steps zone ahead) (givenOf lane arrival passing travel follow cross) at left leave enter made moved
+Inv-loop steps zone ahead lane arrival passing travel follow cross enter₀ order₀ at₀ left₀ leave₀ made₀ moved₀ enter order at left leave made moved = Settling (crossingOf steps zone ahead) (givenOf lane arrival passing travel follow cross) at left leave enter order made moved
 
 abbrev μ-loop : tie.MeasureT-loop
-μ-loop steps zone ahead lane arrival passing travel follow cross enter₀ at₀ left₀ leave₀ made₀ moved₀ enter at left leave made moved = 144 - made + min 1 moved
+μ-loop steps zone ahead lane arrival passing travel follow cross enter₀ order₀ at₀ left₀ leave₀ made₀ moved₀ enter order at left leave made moved = 144 - made + min 1 moved
 
 loop-holds : tie.Need-loop-holds Inv-loop μ-loop
-loop-holds c = settling-start _ _ 16 _ _ _ (rw (c .pre .1) (running-start _ _ 16 24 384 128 (c .pre .0) (carts-16 _ _ _) refl refl refl))
+loop-holds c = settling-start _ _ 16 _ _ _ _ (carts-16 _ _ _) (c .pre .2) (rw (c .pre .1) (running-start _ _ 16 24 384 128 (c .pre .0) (carts-16 _ _ _) refl refl refl))
 
 sweep-requires : tie.Need-sweep-requires Inv-loop μ-loop
-sweep-requires c κs = c .before .before .before .before .before .loop .inv .running
+sweep-requires c κs = c .before .before .before .before .before .before .loop .inv .underway
 
-add-made : tie.Need-add-made Inv-loop μ-loop
-add-made c = omega (arith, settling-few _ _ _ _ _ _ _ _ (c .before .before .before .before .before .before .loop .inv) _ _ _ _ _ (c .sweep .ensures))
+sub-moved : tie.Need-sub-moved Inv-loop μ-loop
+sub-moved c = c .sweep .ensures .no-fewer
 
 loop-less : tie.Need-loop-less Inv-loop μ-loop
-loop-less c = settling-less _ _ _ _ _ _ _ _ (c .before .before .before .before .before .before .loop .inv) _ _ _ _ _ (c .sweep .ensures) (c .before .before .before .before .before .loop-test .taken)
+loop-less c = settling-less _ _ _ _ _ _ _ _ _ (c .before .before .before .before .before .before .before .loop .inv) _ _ _ _ _ _ (c .sweep .ensures) (c .before .before .before .before .before .before .loop-test .taken)
 
 loop-again : tie.Need-loop-again Inv-loop μ-loop
-loop-again c = settling-turn _ _ _ _ _ _ _ _ (c .before .before .before .before .before .before .loop .inv) _ _ _ _ _ (c .sweep .ensures)
+loop-again c = settling-turn _ _ _ _ _ _ _ _ _ (c .before .before .before .before .before .before .before .loop .inv) _ _ _ _ _ _ (c .sweep .ensures)
 
 returns : tie.Need-returns Inv-loop μ-loop
-returns c = settling-end _ _ _ _ _ _ _ _ (c .before .loop .inv) (c .loop-test .left)
+returns c = settling-end _ _ _ _ _ _ _ _ _ (c .before .loop .inv) (c .loop-test .left)
 
 pub settle-spec : {M : Type 1} → statement M
 settle-spec =
     tie.close
-    (tie.spec Inv-loop μ-loop loop-holds sweep-requires add-made loop-less loop-again returns)
+    (tie.spec Inv-loop μ-loop loop-holds sweep-requires sub-moved loop-less loop-again returns)

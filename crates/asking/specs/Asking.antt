@@ -1,5 +1,5 @@
 -- A request to move a cart: the cart's new position and the new count, or the first check that fails.
-use Prim.Native.Nat.{ℕ, suc, _+_}
+use Prim.Native.Nat.{ℕ, _+_}
 use mathlib.Core.List.{List, [], _∷_, _++_}
 use lib.Dec.{ltb, eqb}
 use Rattle.words.specs.Lists.{pick}
@@ -21,7 +21,7 @@ use Rattle.asking.specs.declared.Asked.{Asked}
 
 -- the cart has made its next move
 abbrev pub hasMoved : Record → ℕ → Asked
-hasMoved lent cart = record { outcome = done; position = suc (pos (lent .position) cart); made = lent .made + 1; ahead = 0 }
+hasMoved lent cart = record { outcome = done; position = pos (lent .position) cart + 1; made = lent .made + 1; ahead = 0 }
 
 module _ (sheet : Sheet) (orders : Orders) (lent : Record) (cart : ℕ) where
   -- "plan is locked", "no run of this plan reaches the lent record", "cart number m or more", "cart is already out", "cart is held"

@@ -76,3 +76,55 @@ fn carts_ahead<'a>(
     let z = zone[x] as usize;
     carts::count(carts::less(ahead[x], left[z]))
 }
+
+// A request under a readable plan: the plan is not locked (22), a run reaches the record (23), and the cart is on the sheet (24), not out (25) and not held (26).
+fn ask_plan(sheet: Sheet, orders: Orders, lent: Record, cart: usize) -> Asked
+    requires { ⌜ Valid sheet × ValidOrders sheet orders ⌝ }
+    ensures { λ r. ⌜ r ≡ askOf sheet orders lent cart ⌝ }
+{
+    if !is_out(sheet, orders) {
+        return no_move(refused(22, 0), 0);
+    }
+    let steps = sheet.steps;
+    let zone = sheet.zone;
+    let ahead = orders.ahead;
+    let tested = test_record(&steps, &zone, &ahead, lent);
+    if !tested.reached {
+        return no_move(refused(23, 0), 0);
+    }
+    if sheet.carts <= cart {
+        return no_move(refused(24, 0), 0);
+    }
+    let at = lent.position;
+    if steps[cart] < at[cart] {
+        return no_move(refused(25, 0), 0);
+    }
+    let left = tested.left;
+    if !may_move(&steps, &zone, &ahead, &at, &left, cart) {
+        return no_move(refused(26, 0), carts_ahead(&zone, &ahead, &at, &left, cart));
+    }
+    let done = Outcome {
+        number: 0,
+        place: 0,
+    };
+    Asked {
+        outcome: done,
+        position: at[cart] + 1,
+        made: lent.made + 1,
+        ahead: 0,
+    }
+}
+
+// A request to move a cart, for every two byte strings, record and number: done with the cart's new position and the new count, or the first of checks 1 to 26 that fails.
+pub fn ask(s: &[u8], p: &[u8], lent: Record, cart: usize) -> Asked
+    ensures { λ r. ⌜ r ≡ ask (now (s .entry)) (now (p .entry)) lent cart ⌝ }
+{
+    let read = read_plan(s, p);
+    let outcome = read.outcome;
+    if outcome.number != 0 {
+        return no_move(outcome, 0);
+    }
+    let sheet = read.sheet;
+    let orders = read.orders;
+    ask_plan(sheet, orders, lent, cart)
+}

@@ -31,13 +31,19 @@ use Rattle.judge.specs.Judging.{ordersRead}
 use Rattle.judge.proofs.Verdict.{plan-carts, accepts-out}
 use Rattle.asking.specs.Asking.{ask}
 use Rattle.asking.specs.declared.Asked.{Asked}
-use Rattle.moving.specs.Moving.{startRecord, movedRecord, recordAfter, afterRequests, doneRequests, movesOfPlan, Accepted}
+use Rattle.moving.specs.Moving.{startRecord, movedRecord, recordAfter, Calls, afterRequests, doneRequests, movesOfPlan, Accepted}
 use Rattle.moving.proofs.Counts.{moves-are}
 use Rattle.moving.proofs.Requests.{sheet-valid, orders-valid, refused-keeps, done-moved, permitted-done, keeps-reached}
 
 module _ (s p : List ℕ) where
   abbrev S : System
   S = movesOfPlan s p
+
+  -- calls of the routine leave this record, whatever order they came in
+  pub calls-leave : (lent : Record) (requests : List ℕ) (last : Record) → Calls s p lent requests last → last ≡ afterRequests s p lent requests
+  calls-leave lent [] last calls = calls
+  calls-leave lent (cart ∷ later) last (next, asked, is, calls) =
+      calls-leave next later last calls ∙ ap (λ (r : Record). afterRequests s p r later) (is .holds)
 
   -- the count grows by the requests that are done
   made-grows : (lent : Record) (requests : List ℕ) → afterRequests s p lent requests .made ≡ lent .made + doneRequests s p lent requests

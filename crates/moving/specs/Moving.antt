@@ -14,6 +14,7 @@ use Rattle.plan.specs.Reading.{readPlan}
 use Rattle.record.specs.declared.Record.{Record}
 use Rattle.judge.specs.Judging.{planSystem, isOut, ordersRead}
 use Rattle.asking.specs.Asking.{movingChecks, ask}
+use Rattle.asking.specs.declared.Asked.{Asked}
 
 -- "All zero is the start"
 abbrev pub startRecord : Record
@@ -28,9 +29,19 @@ module _ (s p : List ℕ) where
   unfoldable pub recordAfter : Record → ℕ → Record
   recordAfter lent cart = firstFailing (λ _. lent) (movedRecord lent cart) (movingChecks s p lent cart)
 
+  -- what a request is answered, and what the record then holds
+  pub record MovedAs (lent : Record) (cart : ℕ) (after : Record) (asked : Asked) : Type 0 where
+    pub answer : asked ≡ ask s p lent cart
+    pub holds : after ≡ recordAfter lent cart
+
   -- ---- requests one after the other, "in whatever order, refused requests mixed in"
 
-  -- the record after requests for the carts of a list, first to last
+  -- calls of the routine for the carts of a list, first to last: each is lent the record as the one before left it
+  abbrev pub Calls : Record → List ℕ → Record → Type 0
+  Calls lent [] last = last ≡ lent
+  Calls lent (cart ∷ later) last = (next : Record) × (asked : Asked) × MovedAs lent cart next asked × Calls next later last
+
+  -- the record after them
   abbrev pub afterRequests : Record → List ℕ → Record
   afterRequests lent [] = lent
   afterRequests lent (cart ∷ later) = afterRequests (recordAfter lent cart) later

@@ -27,10 +27,10 @@ use Rattle.plan.specs.declared.Orders.{Orders}
 use Rattle.plan.proofs.Visitors.{step-valid}
 use Rattle.plan.proofs.Lists.{ahead-list}
 use Rattle.crossing.specs.Tables.{crossingOf, sheetCrossing, LeftSet}
-use Rattle.crossing.specs.Plans.{routesOf, listsOf, planCrossing}
+use Rattle.crossing.specs.Plans.{routesOf, listsOf}
 use Rattle.crossing.proofs.Tables.{steps-is, zone-is, step-below}
 use Rattle.crossing.proofs.Plans.{plan-complete}
-use Rattle.asking.specs.Ahead.{countAhead, aheadOf}
+use Rattle.asking.specs.Ahead.{aheadOf}
 use Rattle.asking.proofs.Counted.{count-ahead}
 
 module _ (sheet : Sheet) (v : Valid sheet) (orders : Orders) (w : ValidOrders sheet orders) (at : List ℕ) (c : ℕ) (l : c < 16)

@@ -8,7 +8,7 @@ use lib.Dec.{eqb}
 use borrow.Author.Tests.{ne-eqb}
 use Rattle.sheet.specs.Reading.{sheetOf}
 use Rattle.sheet.specs.Valid.{Valid}
-use Rattle.plan.specs.Reading.{planDone, ordersOf, readPlan}
+use Rattle.plan.specs.Reading.{readPlan}
 use Rattle.plan.specs.Valid.{ValidOrders}
 use Rattle.plan.specs.declared.PlanRead.{PlanRead}
 use Rattle.plan.proofs.Passing.{read-passes, passes-read}

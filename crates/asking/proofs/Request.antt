@@ -1,22 +1,21 @@
 -- A request under a readable plan: each test fails or passes, and what is answered then.
-use Prim.Native.Nat.{ℕ, zero, suc, _+_, _≤_, _<_}
+use Prim.Native.Nat.{ℕ, zero, suc, _≤_, _<_}
 use mathlib.Core.Path.{_≡_, refl, sym, ap, _∙_}
 use mathlib.Core.Logic.{_↔_}
 use mathlib.Core.Bool.{Bool, true, false, not-eq-not, false≢true}
-use mathlib.Core.List.{List}
 use native.Mathlib.Decide.{decLt}
 use native.Mathlib.Omega.{arith}
-use lib.ListN.{length, getD}
+use lib.ListN.{getD}
 use borrow.Author.Tests.{lt-ltb, le-ltb}
-use Rattle.words.specs.Checks.{done, refused, firstFailing}
-use Rattle.moves.specs.System.{System, pos, sum}
+use Rattle.words.specs.Checks.{refused, firstFailing}
+use Rattle.moves.specs.System.{System, pos}
 use Rattle.moves.specs.Moves.{Permitted, isPermitted}
 use Rattle.moves.proofs.Moves.{permitted-says}
 use Rattle.routes.specs.Crossing.{Crossing, steps, zone}
 use Rattle.routes.specs.Moves.{movesOf, system}
-use Rattle.crossing.specs.Tables.{crossingOf, sheetCrossing, sheetGiven}
+use Rattle.crossing.specs.Tables.{sheetCrossing, sheetGiven}
 use Rattle.crossing.specs.Sound.{Sound}
-use Rattle.crossing.proofs.Tables.{steps-is, zone-is}
+use Rattle.crossing.proofs.Tables.{steps-is}
 use Rattle.crossing.proofs.Permitted.{out-permitted}
 use Rattle.crossing.proofs.Plans.{plan-sound, plan-system}
 use Rattle.sheet.specs.Valid as valid

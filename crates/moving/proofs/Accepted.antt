@@ -3,17 +3,17 @@ use Prim.Native.Nat.{ℕ, _≤_, _<_}
 use mathlib.Core.Path.{_≡_, refl, ap}
 use mathlib.Core.Logic.{_↔_}
 use mathlib.Core.Bool.{true}
-use mathlib.Core.List.{List, [], _∷_, _++_}
+use mathlib.Core.List.{List}
 use native.Mathlib.Omega.{arith}
 use borrow.Author.Tests.{le-leb}
-use Rattle.words.specs.Checks.{Check, check, AllPass, Numbered}
+use Rattle.words.specs.Checks.{Check, AllPass, Numbered}
 use Rattle.words.proofs.All.{all-append, all-first, all-later}
 use Rattle.words.proofs.First.{pass-answers, done-passes}
 use Rattle.sheet.specs.Reading.{sheetOf}
-use Rattle.plan.specs.Reading.{readingChecks, readPlan}
+use Rattle.plan.specs.Reading.{readingChecks}
 use Rattle.plan.specs.declared.PlanRead.{PlanRead}
 use Rattle.plan.proofs.Passing.{reading-says, read-passes, passes-read}
-use Rattle.judge.specs.Judging.{isOut, ordersRead, verdictChecks, judged, judgingChecks, judgeRefused, judge}
+use Rattle.judge.specs.Judging.{ordersRead, verdictChecks, judged, judgingChecks, judgeRefused, judge}
 use Rattle.judge.specs.declared.Judged.{Judged}
 use Rattle.moving.specs.Moving.{Accepted}
 

@@ -1,13 +1,13 @@
 -- The moves of a sheet's plan are as many as its route steps plus its carts.
 use Prim.Native.Nat.{ℕ, _+_, _≤_, _<_}
 use mathlib.Core.Path.{_≡_, sym, ap, _∙_}
-use mathlib.Core.List.{List, [], map}
+use mathlib.Core.List.{[], map}
 use native.Mathlib.Decide.{decLt}
 use native.Mathlib.Omega.{arith}
 use lib.ListN.{length, getD, length-map, List·getD-map, List·getD-eq-default}
 use lib.Seq.{ext-getD}
 use Rattle.moves.specs.System.{sum}
-use Rattle.routes.specs.Crossing.{Crossing, steps, allSteps, presentCarts}
+use Rattle.routes.specs.Crossing.{Crossing, steps, presentCarts}
 use Rattle.routes.proofs.Counts.{out-sum, present-are}
 use Rattle.sheet.specs.Valid.{Valid}
 use Rattle.sheet.specs.declared.Sheet.{Sheet}

@@ -1,19 +1,18 @@
 -- One request: it is done exactly where the cart's move is permitted, and then the record has moved; else nothing changes.
-use Prim.Native.Nat.{ℕ, _+_, _≤_, _<_}
-use mathlib.Core.Path.{_≡_, refl, sym, ap, _∙_}
+use Prim.Native.Nat.{ℕ, _<_}
+use mathlib.Core.Path.{_≡_, refl, ap, _∙_}
 use mathlib.Core.Logic.{_⊎_, inl, inr}
 use mathlib.Core.Bool.{true}
-use mathlib.Core.List.{List, [], _∷_}
+use mathlib.Core.List.{List}
 use native.Mathlib.Decide.{ℕ-discrete}
 use native.Mathlib.Nat.{lt-of-not-le, not-suc-le-zero}
 use native.Mathlib.Omega.{arith}
 use borrow.Author.Tests.{lt-ltb}
 use Rattle.words.specs.Checks.{Check, AllPass, Numbered, FirstFails}
-use Rattle.words.specs.declared.Outcome.{Outcome}
 use Rattle.words.proofs.All.{all-append, all-later}
 use Rattle.words.proofs.First.{pass-answers, fails-refuses, pass-or-fail, done-passes}
 use Rattle.moves.specs.System.{System, pos}
-use Rattle.moves.specs.Moves.{moved, Permitted}
+use Rattle.moves.specs.Moves.{Permitted}
 use Rattle.moves.proofs.Moves.{permitted-cart, permitted-says}
 use Rattle.moves.proofs.Runs.{moved-in-range, permitted-sum}
 use Rattle.moves.proofs.Records.{moved-closed}

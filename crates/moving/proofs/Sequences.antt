@@ -1,17 +1,16 @@
 -- Demand 3 over every sequence of requests, refused ones mixed in: the record stays reached, so what runs keep the routine keeps.
-use Prim.Native.Nat.{ℕ, _+_, _<_}
-use mathlib.Core.Path.{_≡_, refl, sym, ap, _∙_}
+use Prim.Native.Nat.{ℕ, _+_}
+use mathlib.Core.Path.{_≡_, sym, ap, _∙_}
 use mathlib.Core.Logic.{_↔_, _⊎_, inl, inr}
 use mathlib.Core.Bool.{true}
 use mathlib.Core.List.{List, [], _∷_}
 use native.Mathlib.Decide.{ℕ-discrete}
 use native.Mathlib.Omega.{arith}
-use lib.ListN.{length}
 use lib.Dec.{eqb}
 use borrow.Author.Tests.{eq-eqb, ne-eqb}
 use Rattle.words.specs.Checks.{done}
 use Rattle.sets.specs.Counting.{bit}
-use Rattle.moves.specs.System.{System, carts, pos, start, sum}
+use Rattle.moves.specs.System.{System, carts, start, sum}
 use Rattle.moves.specs.Moves.{moved, NotOut, Permitted}
 use Rattle.moves.specs.Runs.{AllComeOut}
 use Rattle.moves.specs.Rings.{LowestNotOut}
@@ -19,7 +18,7 @@ use Rattle.moves.proofs.Positions.{≼-sum, zeros-sum}
 use Rattle.moves.proofs.Runs.{start-in-range, moved-in-range, permitted-sum}
 use Rattle.moves.proofs.Records.{start-closed}
 use Rattle.moves.proofs.Out.{reached-out, out-progress, out-or-not}
-use Rattle.routes.specs.Crossing.{Crossing, IsIn}
+use Rattle.routes.specs.Crossing.{IsIn}
 use Rattle.routes.proofs.Plans.{plan-apart}
 use Rattle.sheet.specs.Reading.{sheetOf}
 use Rattle.crossing.specs.Plans.{routesOf, listsOf, planCrossing}
@@ -31,7 +30,7 @@ use Rattle.judge.specs.Judging.{ordersRead}
 use Rattle.judge.proofs.Verdict.{plan-carts, accepts-out}
 use Rattle.asking.specs.Asking.{ask}
 use Rattle.asking.specs.declared.Asked.{Asked}
-use Rattle.moving.specs.Moving.{startRecord, movedRecord, recordAfter, Calls, afterRequests, doneRequests, movesOfPlan, Accepted}
+use Rattle.moving.specs.Moving.{startRecord, recordAfter, Calls, afterRequests, doneRequests, movesOfPlan, Accepted}
 use Rattle.moving.proofs.Counts.{moves-are}
 use Rattle.moving.proofs.Requests.{sheet-valid, orders-valid, refused-keeps, done-moved, permitted-done, keeps-reached}
 

@@ -1,13 +1,12 @@
 -- The carts that have left each zone: each has passed a step there, which is who visits the zones of the steps passed.
 use Prim.Native.Nat.{ℕ, zero, suc, _+_, _-_, _*_, _≤_, _<_}
-use mathlib.Core.Path.{_≡_, refl, sym, ap, _∙_}
+use mathlib.Core.Path.{_≡_, sym, _∙_}
 use mathlib.Core.Logic.{_↔_}
 use mathlib.Core.Bool.{true, false≢true}
 use mathlib.Core.List.{List}
 use native.Mathlib.Decide.{decLt}
 use native.Mathlib.Omega.{arith}
-use lib.ListN.{length, getD, List·getD-eq-default}
-use lib.Dec.{eqb}
+use lib.ListN.{getD, List·getD-eq-default}
 use Rattle.words.specs.Lists.{entries}
 use Rattle.words.proofs.Entries.{length-entries, at-entry}
 use Rattle.words.proofs.Tests.{eqb-says}
@@ -15,9 +14,8 @@ use Rattle.sets.specs.Member.{has}
 use Rattle.sets.specs.Counting.{setBelow}
 use Rattle.sets.proofs.Laws.{has-none, has-below}
 use Rattle.sets.proofs.Counting.{has-set, set-fits}
-use Rattle.moves.specs.System.{pos}
 use Rattle.moves.proofs.Search.{any-says}
-use Rattle.routes.specs.Crossing.{Crossing, steps, zone, HasLeft}
+use Rattle.routes.specs.Crossing.{Crossing, steps, HasLeft}
 use Rattle.routes.specs.Moves.{movesOf}
 use Rattle.crossing.specs.Tables.{crossingOf, LeftSet}
 use Rattle.crossing.proofs.Tables.{step-below, steps-is, zone-is}

@@ -1,5 +1,5 @@
 -- The loop keeps that the carts before c entered their zones in turn.
-use Prim.Native.Nat.{_-_, _≤_, _<_}
+use Prim.Native.Nat.{_-_, _≤_}
 use mathlib.Core.Path.{refl, sym, _∙_}
 use mathlib.Core.Bool.{false≢true}
 use borrow.Author.Tests.{not-true, not-false}

@@ -15,6 +15,8 @@ use Rattle.plan_writer.specs.Writing.{writingChecks, notWritten, wrote, withPla
 use Rattle.plan_writer.specs.declared.PlanWritten.{PlanWritten}
 use Rattle.zone_list.specs.Finding.{findingChecks, notFound, listFound}
 use Rattle.zone_list.specs.declared.ListFound.{ListFound}
+use Rattle.judge.specs.Judging.{judged, judgeRefused, withTimes, ordersRead, judgingChecks}
+use Rattle.judge.specs.declared.Judged.{Judged}
 
 -- r answers, and every check passes; or it refuses with the number and place of the check that fails first
 pub data AnswersOrRefuses {R : Type 0} (refuse : Outcome → R) (answer : R) (checks : List Check) (r : R) : Type 0 where
@@ -34,3 +36,8 @@ pub record WritingAgain (s p room : List ℕ) (r : PlanWritten) (after : List �
 
 abbrev pub FindingAList : List ℕ → List ℕ → ℕ → ListFound → Type 0
 FindingAList s p zone r = AnswersOrRefuses notFound (listFound p zone) (findingChecks s p zone) r
+
+-- the answer, and what the words lent then hold: what they held, on refusal
+pub record JudgingAPlan (s p words : List ℕ) (r : Judged) (after : List ℕ) : Type 0 where
+  pub answer : AnswersOrRefuses (judgeRefused (sheetOf s) (ordersRead s p)) (judged (sheetOf s) (ordersRead s p)) (judgingChecks s p (length words)) r
+  pub holds : AnswersOrRefuses (λ _. words) (withTimes (sheetOf s) (ordersRead s p) words) (judgingChecks s p (length words)) after

@@ -24,5 +24,5 @@ pub stuck-verdict : (sheet : Sheet) (orders : Orders) → Valid sheet → ValidO
 stuck-verdict sheet orders v w at at-end r stuck = go (eqb r 16) refl
   where
     go : (b : Bool) → eqb r 16 ≡ b → b ≡ isOut sheet orders
-    go true e = sym (none-stuck sheet orders v w at at-end r stuck (λ l. omega (arith, eqb-true r 16 e, l)))
+    go true e = sym (none-stuck sheet orders v w at at-end r stuck (omega (arith, eqb-true r 16 e)))
     go false e = sym (one-stuck sheet orders v w at at-end r stuck (omega (arith, eqb-false r 16 e, stuck .most)))

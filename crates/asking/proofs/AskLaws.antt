@@ -7,13 +7,10 @@ use native.Mathlib.Omega.{arith}
 use lib.Dec.{eqb}
 use borrow.Author.Tests.{ne-eqb}
 use Rattle.sheet.specs.Reading.{sheetOf}
-use Rattle.sheet.specs.Valid.{Valid}
 use Rattle.plan.specs.Reading.{readPlan}
-use Rattle.plan.specs.Valid.{ValidOrders}
 use Rattle.plan.specs.declared.PlanRead.{PlanRead}
 use Rattle.plan.proofs.Passing.{read-passes, passes-read}
 use Rattle.plan.proofs.Further.{further-refused, further-read}
-use Rattle.plan.proofs.Readable.{readable-sheet, readable-valid}
 use Rattle.record.specs.declared.Record.{Record}
 use Rattle.judge.specs.Judging.{ordersRead}
 use Rattle.judge.proofs.Numbers.{read-below}
@@ -37,9 +34,6 @@ module _ (s p : List ℕ) (lent : Record) (cart : ℕ) where
 module _ (s p : List ℕ) (read : PlanRead) (is : read ≡ readPlan s p) where
   pub ask-refused : (lent : Record) (cart : ℕ) → (read .outcome .number ≡ 0 → ⊥) → noMove (read .outcome) 0 ≡ ask s p lent cart
   ask-refused lent cart = rw is (refused-is s p lent cart)
-
-  pub ask-valid : read .outcome .number ≡ 0 → Valid (read .sheet) × ValidOrders (read .sheet) (read .orders)
-  ask-valid = rw is (λ e. (readable-sheet s p e, readable-valid s p e))
 
   pub ask-read : (lent : Record) (cart : ℕ) → read .outcome .number ≡ 0 → askOf (read .sheet) (read .orders) lent cart ≡ ask s p lent cart
   ask-read lent cart = rw is (read-is s p lent cart)

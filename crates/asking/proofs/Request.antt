@@ -33,7 +33,7 @@ use Rattle.record.specs.declared.Tested.{Tested}
 use Rattle.record.proofs.Few.{reached-few}
 use Rattle.judge.specs.Judging.{planSystem, isOut}
 use Rattle.judge.proofs.Verdict.{out-at}
-use Rattle.asking.specs.Tables.{Wanting, notGone, noMove}
+use Rattle.asking.specs.Tables.{WantsZone, notGone, noMove}
 use Rattle.asking.specs.Asking.{askOf, hasMoved}
 use Rattle.asking.proofs.Ahead.{ahead-counted}
 
@@ -151,7 +151,7 @@ module _ (sheet : Sheet) (orders : Orders) (v : Valid sheet) (w : ValidOrders sh
                         (omega (arith, counted, v .cart cart present .steps-least)) (omega (arith, n, inside, counted)) in
                         absurd (false≢true (sym held ∙ says .1 m))
 
-                pub held-wanting : Wanting (sheet .zone) (lent .position) cart
+                pub held-wanting : WantsZone (sheet .zone) (lent .position) cart
                 held-wanting = record {
                   cart = cart-few;
                   step = omega (arith, wants, v .cart cart present .steps-most);

@@ -13,7 +13,7 @@ ghost use mathlib.Core.Path.{_≡_};
 ghost use Rattle.sheet.specs.Valid.{Valid};
 ghost use Rattle.plan.specs.Valid.{ValidOrders};
 ghost use Rattle.judge.specs.Judging.{isOut};
-ghost use Rattle.asking.specs.Tables.{Wanting, notGone, noMove};
+ghost use Rattle.asking.specs.Tables.{WantsZone, notGone, noMove};
 ghost use Rattle.asking.specs.Asking.{askOf, ask};
 
 // What a request is answered: done with the cart's new position and the new count, or a refusal with both 0.
@@ -69,7 +69,7 @@ fn carts_ahead<'a>(
     left: &[u16; 24],
     c: usize,
 ) -> u32
-    requires { ⌜ Wanting (now zone) (now at) c ⌝ }
+    requires { ⌜ WantsZone (now zone) (now at) c ⌝ }
     ensures { λ r. ⌜ r ≡ notGone (now (zone .entry)) (now (ahead .entry)) (now (at .entry)) (now (left .entry)) c ⌝ }
 {
     let x = 8 * c + at[c] as usize;

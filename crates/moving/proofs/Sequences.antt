@@ -25,7 +25,7 @@ use Rattle.crossing.specs.Plans.{routesOf, listsOf, planCrossing}
 use Rattle.crossing.proofs.Plans.{plan-complete}
 use Rattle.record.specs.Record.{RunReaches, isReached}
 use Rattle.record.specs.declared.Record.{Record}
-use Rattle.record.proofs.Reached.{Standing, reached-says, reached-run}
+use Rattle.record.proofs.Reached.{PassesTest, reached-says, reached-run}
 use Rattle.judge.specs.Judging.{ordersRead}
 use Rattle.judge.proofs.Verdict.{plan-carts, accepts-out}
 use Rattle.asking.specs.Asking.{ask}
@@ -75,7 +75,7 @@ module _ (s p : List ℕ) where
       last-reached : isReached S last ≡ true
       last-reached = calls-reached startRecord requests last calls start-reached
 
-      standing : Standing S last
+      standing : PassesTest S last
       standing = reached-says S last .0 last-reached
 
       -- some run of the plan reaches it

@@ -12,7 +12,7 @@ use Rattle.lists.specs.Sets.{whoVisits}
 use Rattle.record.specs.Record.{isReached}
 use Rattle.record.specs.Tables.{NonePastOut, zonesLeft, AllInTurn, notReached, Orderly, TestedAs}
 use Rattle.record.specs.declared.Record.{Record}
-use Rattle.record.proofs.Reached.{Standing, reached-says}
+use Rattle.record.proofs.Reached.{PassesTest, reached-says}
 use Rattle.record.proofs.Positions.{in-range-is, counted-is}
 use Rattle.record.proofs.Left.{left-sets}
 use Rattle.record.proofs.Turns.{closed-turns, turns-closed}
@@ -21,7 +21,7 @@ module _ (steps zone ahead : List ℕ) (orderly : Orderly steps zone ahead) (len
   abbrev S : System
   S = system (crossingOf steps zone ahead)
 
-  refuted : ¬ (Standing S lent) → TestedAs (crossingOf steps zone ahead) lent notReached
+  refuted : ¬ (PassesTest S lent) → TestedAs (crossingOf steps zone ahead) lent notReached
   refuted none = record { reached-is = go (isReached S lent) refl; left-is = λ e. absurd (false≢true e); left-none = λ _. refl }
     where
       go : (b : Bool) → isReached S lent ≡ b → false ≡ isReached S lent

@@ -40,13 +40,17 @@ AllInTurn steps zone ahead at left = (c : ℕ) → c < 16 → InTurn zone ahead 
 abbrev pub notReached : Tested
 notReached = record { reached = false; left = replicate 24 0 }
 
--- what the test asks of tables
-pub record Orderly (stepTable zoneTable aheadTable : List ℕ) : Type 0 where
-  pub steps-16 : length stepTable ≡ 16
-  pub once : NamesOnce (crossingOf stepTable zoneTable aheadTable)
-  pub only : OnlyVisitors (crossingOf stepTable zoneTable aheadTable)
-  pub zone-below : (c j : ℕ) → j < steps (crossingOf stepTable zoneTable aheadTable) c → zone (crossingOf stepTable zoneTable aheadTable) c j < 24
-  pub steps-most : (c : ℕ) → steps (crossingOf stepTable zoneTable aheadTable) c ≤ 8
+module _ (stepTable zoneTable aheadTable : List ℕ) where
+  abbrev X : Crossing
+  X = crossingOf stepTable zoneTable aheadTable
+
+  -- what the test asks of tables
+  pub record Orderly : Type 0 where
+    pub steps-16 : length stepTable ≡ 16
+    pub once : NamesOnce X
+    pub only : OnlyVisitors X
+    pub zone-below : (c j : ℕ) → j < steps X c → zone X c j < 24
+    pub steps-most : (c : ℕ) → steps X c ≤ 8
 
 -- whether a run reaches the record, and then for each zone the carts that have left it
 pub record TestedAs (X : Crossing) (lent : Record) (tested : Tested) : Type 0 where

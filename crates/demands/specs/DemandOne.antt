@@ -17,6 +17,10 @@ use Rattle.zone_list.specs.Finding.{findingChecks, notFound, listFound}
 use Rattle.zone_list.specs.declared.ListFound.{ListFound}
 use Rattle.judge.specs.Judging.{judged, judgeRefused, withTimes, ordersRead, judgingChecks}
 use Rattle.judge.specs.declared.Judged.{Judged}
+use Rattle.record.specs.declared.Record.{Record}
+use Rattle.asking.specs.Asking.{notMoved, hasMoved, movingChecks}
+use Rattle.asking.specs.declared.Asked.{Asked}
+use Rattle.moving.specs.Moving.{movedRecord}
 
 -- r answers, and every check passes; or it refuses with the number and place of the check that fails first
 pub data AnswersOrRefuses {R : Type 0} (refuse : Outcome → R) (answer : R) (checks : List Check) (r : R) : Type 0 where
@@ -41,3 +45,12 @@ FindingAList s p zone r = AnswersOrRefuses notFound (listFound p zone) (findingC
 pub record JudgingAPlan (s p words : List ℕ) (r : Judged) (after : List ℕ) : Type 0 where
   pub answer : AnswersOrRefuses (judgeRefused (sheetOf s) (ordersRead s p)) (judged (sheetOf s) (ordersRead s p)) (judgingChecks s p (length words)) r
   pub holds : AnswersOrRefuses (λ _. words) (withTimes (sheetOf s) (ordersRead s p) words) (judgingChecks s p (length words)) after
+
+abbrev pub AskingToMove : List ℕ → List ℕ → Record → ℕ → Asked → Type 0
+AskingToMove s p lent cart r =
+    AnswersOrRefuses (notMoved (sheetOf s) (ordersRead s p) lent cart) (hasMoved lent cart) (movingChecks s p lent cart) r
+
+-- the answer, and what the record lent then holds: what it held, on refusal
+pub record MovingACart (s p : List ℕ) (lent : Record) (cart : ℕ) (r : Asked) (after : Record) : Type 0 where
+  pub answer : AskingToMove s p lent cart r
+  pub holds : AnswersOrRefuses (λ _. lent) (movedRecord lent cart) (movingChecks s p lent cart) after

@@ -11,17 +11,24 @@ use Rattle.plan.specs.declared.PlanRead.{PlanRead}
 use Rattle.ring.specs.Ring.{noRing}
 use Rattle.judge.specs.Judging.{notJudged, judge, wordsAfter}
 use Rattle.judge.specs.declared.Judged.{Judged}
+use Rattle.record.specs.declared.Record.{Record}
+use Rattle.asking.specs.Asking.{ask}
+use Rattle.asking.specs.declared.Asked.{Asked}
+use Rattle.moving.specs.Moving.{recordAfter}
 
 pub data Example : Type 0 where
   reading : (sheet : List ℕ) → SheetRead → Example
   readingPlan : (sheet plan : List ℕ) → PlanRead → Example
   -- with words lent, and what they hold afterwards
   judging : (sheet plan words : List ℕ) → Judged → (after : List ℕ) → Example
+  -- with a record lent and a cart, and what the record holds afterwards
+  moving : (sheet plan : List ℕ) (lent : Record) (cart : ℕ) → Asked → (after : Record) → Example
 
 -- the operation's definition gives the row's answer
 abbrev pub Holds : Example → Type 0
 Holds (reading sheet answer) = readSheet sheet ≡ answer
 Holds (readingPlan sheet plan answer) = readPlan sheet plan ≡ answer
+Holds (moving sheet plan lent cart answer after) = (ask sheet plan lent cart ≡ answer) × (recordAfter sheet plan lent cart ≡ after)
 Holds (judging sheet plan words answer after) = (judge sheet plan (length words) ≡ answer) × (wordsAfter sheet plan words ≡ after)
 
 -- sheet S, with cart 1 on a lane of our choice: S itself has it on lane 1
@@ -45,6 +52,14 @@ lent n = replicate n 7
 abbrev pub timesOfTwo : ℕ → ℕ → ℕ → ℕ → List ℕ
 timesOfTwo a b c d = (a ∷ b ∷ replicate 6 0) ++ (c ∷ d ∷ replicate 118 0) ++ (7 ∷ [])
 
+-- a record of two carts
+abbrev pub standing : ℕ → ℕ → ℕ → Record
+standing first second made = record { position = first ∷ second ∷ replicate 14 0; made = made }
+
+-- a refusal, and how many carts ahead it tells
+abbrev pub notDone : ℕ → ℕ → Asked
+notDone number ahead = record { outcome = refused number 0; position = 0; made = 0; ahead = ahead }
+
 abbrev pub examples : List Example
 examples =
     -- 1. S, A: accepted, with its times
@@ -63,6 +78,15 @@ examples =
     ∷ readingPlan (sheetS 0) planB (planRefused (refused 21 9))
     -- 8. the same with A: finish 4400
     ∷ judging (sheetS 0) planA (lent 129) (record { outcome = done; finish = 4400; moves = 6; ring = noRing }) (timesOfTwo 0 1100 2300 3400)
+    -- 9. S, A, positions 1, 1, made 2: 23
+    ∷ moving (sheetS 1) planA (standing 1 1 2) 0 (notDone 23 0) (standing 1 1 2)
+    -- 10. positions 2, 0, made 2, cart 1: 26, one ahead
+    ∷ moving (sheetS 1) planA (standing 2 0 2) 1 (notDone 26 1) (standing 2 0 2)
+    -- 11. positions 3, 0, made 3, cart 1: becomes 3, 1, made 4
+    ∷ moving (sheetS 1) planA (standing 3 0 3) 1 (record { outcome = done; position = 1; made = 4; ahead = 0 }) (standing 3 1 4)
+    -- 12. positions 3, 3, made 6, cart 0: 25; cart 2: 24
+    ∷ moving (sheetS 1) planA (standing 3 3 6) 0 (notDone 25 0) (standing 3 3 6)
+    ∷ moving (sheetS 1) planA (standing 3 3 6) 2 (notDone 24 0) (standing 3 3 6)
     -- 14. times in 127 words: 28
     ∷ judging (sheetS 1) planA (lent 127) (notJudged (refused 28 0) noRing) (lent 127)
     ∷ []

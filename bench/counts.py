@@ -1,4 +1,4 @@
-"""Prints instructions a call from callgrind's dumps: one dump for each line of the phases that `bench count` printed."""
+"""Prints instructions a call, and a turn of the yardstick's planner, from callgrind's dumps: one dump for each line of the phases that `bench count` printed."""
 import re
 import sys
 
@@ -10,8 +10,8 @@ for number, line in enumerate(open(phases), 1):
     if int(calls):
         sizes.setdefault(size, {})[what] = total / int(calls)
 
-print(f"{'instructions a call':40} {'proved':>8} {'yardst.':>8} {'ratio':>6} {'y. judges':>10} {'y. plans':>11}")
+print(f"{'instructions a call':40} {'proved':>8} {'yardst.':>8} {'ratio':>6} {'y. judges':>10} {'y. turn':>8}")
 for size, counted in sizes.items():
     ratio = counted['proved core'] / counted['yardstick core']
     print(f"{size:40} {counted['proved core']:8.0f} {counted['yardstick core']:8.0f} {ratio:6.2f}"
-          f" {counted['yardstick judge']:10.0f} {counted['yardstick plan']:11.0f}")
+          f" {counted['yardstick judge']:10.0f} {counted.get('yardstick turn', 0):8.0f}")

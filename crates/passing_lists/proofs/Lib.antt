@@ -1,1 +1,3 @@
 pub mod Placing
+pub mod Strict
+pub mod Lists

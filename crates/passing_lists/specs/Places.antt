@@ -9,28 +9,28 @@ use Rattle.words.specs.Lists.{entries}
 use Rattle.lists.specs.Sets.{Routes, whoVisits}
 use Rattle.passing_lists.specs.declared.PassingLists.{PassingLists}
 
+-- step j of cart c: its zone, and its cart's place there
+abbrev pub IsStep : List ℕ → ℕ → ℕ → Type 0
+IsStep steps c j = (c < 16) × (j < getD steps c 0)
+
+abbrev pub zoneAt : List ℕ → ℕ → ℕ → ℕ
+zoneAt zone c j = getD zone (8 * c + j) 0
+
+abbrev pub placeAt : List ℕ → ℕ → ℕ → ℕ
+placeAt ahead c j = ones (getD ahead (8 * c + j) 0)
+
 module _ (steps zone ahead : List ℕ) where
-  -- step j of cart c: its zone, and its cart's place there
-  abbrev pub IsStep : ℕ → ℕ → Type 0
-  IsStep c j = (c < 16) × (j < getD steps c 0)
-
-  abbrev pub zoneAt : ℕ → ℕ → ℕ
-  zoneAt c j = getD zone (8 * c + j) 0
-
-  abbrev pub placeAt : ℕ → ℕ → ℕ
-  placeAt c j = ones (getD ahead (8 * c + j) 0)
-
   -- no two carts have the same place in a zone
   pub record Placeable (visitors : List ℕ) : Type 0 where
     pub routes : Routes steps zone
     pub visitors-are : visitors ≡ whoVisits steps zone
-    pub place-below : (c j : ℕ) → IsStep c j → placeAt c j < 16
-    pub apart : (c j d k : ℕ) → IsStep c j → IsStep d k → zoneAt c j ≡ zoneAt d k → placeAt c j ≡ placeAt d k → c ≡ d
+    pub place-below : (c j : ℕ) → IsStep steps c j → placeAt ahead c j < 16
+    pub apart : (c j d k : ℕ) → IsStep steps c j → IsStep steps d k → zoneAt zone c j ≡ zoneAt zone d k → placeAt ahead c j ≡ placeAt ahead d k → c ≡ d
 
   -- the entry y of the lists is for step j of cart c: zone z's list stands at 16 * z
   pub record EntryOf (c j y : ℕ) : Type 0 where
-    pub is-step : IsStep c j
-    pub at : y ≡ 16 * zoneAt c j + placeAt c j
+    pub is-step : IsStep steps c j
+    pub at : y ≡ 16 * zoneAt zone c j + placeAt ahead c j
 
   -- the carts of the steps that stand below x are in the lists, each at its place; the other entries are 0
   pub record PlacedTo (x : ℕ) (list : List ℕ) : Type 0 where

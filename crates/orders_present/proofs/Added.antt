@@ -1,13 +1,13 @@
 -- One order of an undecided pair more: it is present, and its pair is decided.
 use Prim.Native.Nat.{ℕ}
-use mathlib.Core.Path.{_≡_, refl, sym, ap, ap₂, _∙_}
+use mathlib.Core.Path.{_≡_, refl, sym, ap, _∙_}
 use mathlib.Core.Bool.{Bool, true, false, false≢true, not, _&&_, _||_, or-true, or-false, or-comm, and-comm, and-true, and-false}
 use mathlib.Core.List.{List, _∷_}
 use native.Mathlib.Decide.{ℕ-discrete}
 use lib.Dec.{eqb}
 use borrow.Author.Tests.{eqb-true, ne-eqb, not-true}
 use Rattle.words.proofs.Tests.{and-both}
-use Rattle.removal.specs.Pairs.{Unplanned, Order, opposite, isDecided, rank, isPair, visits, sameLane}
+use Rattle.removal.specs.Pairs.{Unplanned, Order, opposite, isDecided, rank, isPair, visits}
 use Rattle.removal.specs.Present.{inGroup, pairOrder, goesBefore, isUndecided}
 use Rattle.orders_present.proofs.Ranks.{pair-within, orderOf, goes-pair, goes-more}
 
@@ -88,7 +88,7 @@ module _ (U : Unplanned) (low high : ℕ) (decided : List Order) (o : Order) whe
     candidate = and-both (isPair U (o .zone) (o .first) (o .second)) (inside (o .first) (o .second)) (and-both _ _ undecided .0)
 
     module _ (z d c : ℕ) where
-      order-inside : isOrder o z d c ≡ true → inside d c ≡ true
+      pub order-inside : isOrder o z d c ≡ true → inside d c ≡ true
       order-inside e = let (_, first, second) = order-is o z d c e in rw (first, second) at (candidate .1)
 
       order-pair : isOrder o z d c ≡ true → isPair U z d c ≡ true

@@ -9,7 +9,7 @@ use lib.Dec.{leb, ltb}
 use borrow.Author.Tests.{ltb-true, ltb-false, not-false, lt-ltb, le-ltb}
 use Rattle.removal.specs.Pairs.{Unplanned, Order, isDecided, rank, isPair}
 use Rattle.removal.specs.Present.{inGroup, goesBefore, isUndecided}
-use Rattle.orders_present.specs.Holds.{StepHolds, Holds, Below, InOrBelow}
+use Rattle.orders_present.specs.Holds.{Holds, Below, InOrBelow}
 use Rattle.orders_present.proofs.Ranks.{leb-not, group-says, pair-by, opens-by, closes-by, orderOf, goes-more}
 
 module _ (U : Unplanned) (z d c : ℕ) where

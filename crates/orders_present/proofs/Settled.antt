@@ -1,8 +1,8 @@
 -- The tables stand for the orders present: the carts that settle over them tell whether the moves have a cycle, and the entering times.
 use Prim.Native.Nat.{ℕ, suc, _+_, _*_, _<_}
 use mathlib.Core.Path.{_≡_, refl, sym, ap, _∙_}
-use mathlib.Core.Logic.{_↔_, Iff·rfl}
-use mathlib.Core.Bool.{Bool, true, false, false≢true, _&&_}
+use mathlib.Core.Logic.{_↔_}
+use mathlib.Core.Bool.{Bool, true, false, _&&_}
 use mathlib.Core.List.{List, [], _∷_}
 use native.Mathlib.Decide.{decLt}
 use native.Mathlib.Omega.{arith}
@@ -15,9 +15,8 @@ use Rattle.moves.specs.Runs.{AllComeOut, end}
 use Rattle.moves.proofs.Positions.{≼-sum}
 use Rattle.moves.proofs.Runs.{start-in-range, reaches-in-range}
 use Rattle.moves.proofs.Ends.{greedy-run, end-reached}
-use Rattle.moves.proofs.Out.{end-out}
-use Rattle.routes.specs.Lists.{Named, isNamed, allBelow}
-use Rattle.routes.specs.Crossing.{Crossing, steps, zone, Visits}
+use Rattle.routes.specs.Lists.{Named, isNamed}
+use Rattle.routes.specs.Crossing.{Crossing, steps}
 use Rattle.routes.specs.Moves.{system}
 use Rattle.routes.specs.Orders.{NamesOnce, OnlyVisitors}
 use Rattle.routes.proofs.Places.{all-below-says, named-says}
@@ -30,10 +29,10 @@ use Rattle.crossing.proofs.SameOrders.{system-same, entering-orders}
 use Rattle.entering.specs.Times.{timesOf}
 use Rattle.running.specs.Settled.{SettlesAs}
 use Rattle.running.proofs.Verdict.{settled-times}
-use Rattle.removal.specs.Pairs.{Unplanned, Order, visits, sameLane}
+use Rattle.removal.specs.Pairs.{Unplanned, Order, visits}
 use Rattle.removal.specs.Present.{goesBefore, present}
 use Rattle.removal.specs.Running.{movesMade, isOut, enteringTime}
-use Rattle.orders_present.specs.Unplanned.{unplannedOf, Plannable}
+use Rattle.orders_present.specs.Unplanned.{unplannedOf}
 use Rattle.orders_present.specs.Holds.{Holds}
 
 end-in-range : (S : System) → InRange S (end S (start S))

@@ -1,14 +1,153 @@
--- Demand 2, its last sentence, of whatever meets the operations' contracts.
-use Prim.Native.Nat.{ℕ}
+-- Demand 2, a theorem a sentence, of whatever meets the operations' contracts.
+use Prim.Native.Nat.{ℕ, _+_, _*_, _<_}
 use mathlib.Core.Path.{_≡_, sym, ap, _∙_}
+use mathlib.Core.Bool.{true, false, true≢false, not-eq-not}
 use mathlib.Core.List.{List}
-use lib.ListN.{length}
+use native.Mathlib.Omega.{arith}
+use lib.ListN.{length, getD, drop, List·getD-append}
+use Rattle.words.proofs.Entries.{length-entries}
+use Rattle.words.proofs.Tables.{used-at}
+use Rattle.words.proofs.Tests.{ltb-says}
 use Rattle.fields.specs.Bytes.{Bytes}
+use Rattle.moves.specs.System.{start}
+use Rattle.moves.specs.Runs.{AllComeOut}
+use Rattle.routes.specs.Crossing.{Crossing, steps}
+use Rattle.routes.specs.Moves.{system}
+use Rattle.routes.specs.Plans.{Complete}
+use Rattle.routes.specs.Orders.{OnlyVisitors}
+use Rattle.routes.proofs.Counts.{out-sum}
+use Rattle.routes.proofs.Moves.{out-steps, meetable}
+use Rattle.routes.proofs.Plans.{plan-visitors}
+use Rattle.graph.specs.Graph.{Cyclic}
+use Rattle.graph.proofs.Agrees.{graph-locked, graph-accepts}
+use Rattle.times.specs.Times.{Given, finish, EnteringTimes, Ranged}
+use Rattle.times.proofs.Entered.{entering-same}
+use Rattle.times.proofs.Times.{times-least}
+use Rattle.times.proofs.Finish.{finish-unique, finish-bound}
+use Rattle.times.proofs.Published.{published-agrees}
+use Rattle.sheet.specs.Reading.{sheetOf}
 use Rattle.plan.proofs.RoundTrip.{written-readable}
 use Rattle.plan_writer.specs.Writing.{writeAgain, roomAfter}
 use Rattle.plan_writer.specs.declared.PlanWritten.{PlanWritten}
 use Rattle.plan_writer.proofs.SameBytes.{same-bytes}
-use Rattle.demands.specs.DemandTwo.{ReadBack, SameBytes}
+use Rattle.crossing.specs.Tables.{crossingOf}
+use Rattle.crossing.specs.Plans.{routesOf, listsOf}
+use Rattle.crossing.proofs.Tables.{step-below}
+use Rattle.crossing.proofs.Plans.{plan-complete, plan-sound}
+use Rattle.entering.specs.Times.{timesOf}
+use Rattle.judge.specs.Judging.{isOut, enteringTime, timeWords, judged, withTimes, ordersRead, judge, wordsAfter}
+use Rattle.judge.specs.declared.Judged.{Judged}
+use Rattle.judge.proofs.Verdict.{accepts-out}
+use Rattle.judge.proofs.Words.{judged-times}
+use Rattle.judge.proofs.Outcomes.{judge-locked, judge-accepted, words-accepted, number-locked, number-accepted}
+use Rattle.demands.specs.DemandTwo.{Readable, planned, given, Verdict, TimesTold, JudgedRightly, ReadBack, SameBytes}
+use Rattle.demands.proofs.DemandThree.{read-valid}
+
+module _ (s p : List ℕ) where
+  abbrev X : Crossing
+  X = planned s p
+
+  full : Readable s p → Complete (routesOf (sheetOf s)) (listsOf (sheetOf s) (ordersRead s p))
+  full readable = let (v, w) = read-valid s p readable in plan-complete (sheetOf s) v (ordersRead s p) w
+
+  -- the verdict is the published graph's
+  locked-cyclic : Readable s p → isOut (sheetOf s) (ordersRead s p) ≡ false → Cyclic X
+  locked-cyclic readable e = graph-locked _ _ (full readable) .1 (λ all. true≢false (sym (accepts-out _ _ .1 all) ∙ e))
+
+  accepted-acyclic : Readable s p → isOut (sheetOf s) (ordersRead s p) ≡ true → ¬ (Cyclic X)
+  accepted-acyclic readable e = graph-accepts _ _ (full readable) .1 (accepts-out _ _ .0 e)
+
+  module _ (room : ℕ) (r : Judged) (is : r ≡ judge s p room) where
+    number-is : r .outcome .number ≡ judge s p room .outcome .number
+    number-is = ap (λ (x : Judged). x .outcome .number) is
+
+    -- "exactly if the resource conflict graph .. has a cycle; otherwise it is accepted once there is room for its times"
+    pub verdict-published : Verdict s p room r
+    verdict-published = record {
+      locked = (
+        λ e. let (readable, out) = number-locked s p room (sym number-is ∙ e) in (readable, locked-cyclic readable out),
+        λ (readable, cyclic).
+            let out : isOut (sheetOf s) (ordersRead s p) ≡ false = not-eq-not {b = false} .0 (λ e. accepted-acyclic readable e cyclic) in
+            number-is ∙ ap (λ (x : Judged). x .outcome .number) (judge-locked s p readable out room),
+      );
+      accepted = (
+        λ e. let (readable, out, long) = number-accepted s p room (sym number-is ∙ e) in (readable, accepted-acyclic readable out, long),
+        λ (readable, acyclic, long).
+            let out : isOut (sheetOf s) (ordersRead s p) ≡ true = not-eq-not {b = true} .0 (λ e. acyclic (locked-cyclic readable e)) in
+            number-is ∙ ap (λ (x : Judged). x .outcome .number) (judge-accepted s p readable out room long),
+      );
+    }
+
+  -- the words hold the times that judging works out, and these are the only ones
+  module _ (readable : Readable s p) (accepted : isOut (sheetOf s) (ordersRead s p) ≡ true) (words after : List ℕ)
+      (is : after ≡ withTimes (sheetOf s) (ordersRead s p) words) where
+    abbrev G : Given
+    G = given s p
+
+    abbrev judgedTime : ℕ → ℕ → ℕ
+    judgedTime = enteringTime (sheetOf s) (ordersRead s p)
+
+    only : OnlyVisitors X
+    only = plan-visitors _ _ (full readable)
+
+    all : AllComeOut (system X) (start (system X))
+    all = accepts-out _ _ .0 accepted
+
+    ranged : Ranged X G
+    unfolding crossingOf
+    ranged =
+        let (v, w) = read-valid s p readable in
+        let same = plan-sound (sheetOf s) v (ordersRead s p) w .ranged in
+        record {
+          carts-most = same .carts-most;
+          steps-most = same .steps-most;
+          arrival-most = same .arrival-most;
+          passing-most = same .passing-most;
+          travel-most = same .travel-most;
+          follow-most = same .follow-most;
+          cross-most = same .cross-most;
+        }
+
+    is-judged : EnteringTimes X G judgedTime
+    is-judged = let (v, w) = read-valid s p readable in judged-times (sheetOf s) (ordersRead s p) v w accepted
+
+    word-is : (c j : ℕ) → j < steps X c → timesOf after c j ≡ judgedTime c j
+    unfolding timeWords crossingOf
+    word-is c j h =
+        let place : 8 * c + j < 128 = omega (arith, ranged .steps-most c, step-below (sheetOf s .steps) (sheetOf s .zone) (ordersRead s p .ahead) c j h) in
+        let sized : length (timeWords (sheetOf s) (ordersRead s p)) ≡ 128 = length-entries 128 0 _ in
+        ap (λ (l : List ℕ). getD l (8 * c + j) 0) is
+        ∙ List·getD-append (timeWords (sheetOf s) (ordersRead s p)) (drop 128 words) 0 (8 * c + j) (omega (arith, sized, place))
+        ∙ used-at 128 8 (λ d k. ltb-says k (steps X d)) judgedTime c j (omega (arith, ranged .steps-most c)) place h
+
+    told : EnteringTimes X G (timesOf after)
+    told c j h =
+        let reached = out-steps X c j h in
+        word-is c j h ∙ is-judged c j h
+        ∙ entering-same X G only judgedTime (timesOf after) (system X .out) (λ d k _ l. sym (word-is d k l)) c j (omega (arith, reached)) h
+        (λ d l. meetable X only c j d (omega (arith, reached)) l)
+
+    -- "Entering times are those of the paper's equations, and are the earliest that its waiting rules allow."
+    times-published : (r : Judged) → r ≡ judged (sheetOf s) (ordersRead s p) → TimesTold s p r after
+    times-published r e =
+        let last : r .finish ≡ finish X G (timesOf after) =
+        ap (λ (x : Judged). x .finish) e ∙ finish-unique X G only all judgedTime is-judged (timesOf after) told in
+        record {
+          equations = published-agrees X G (timesOf after) .1 told;
+          earliest = λ u keeps. times-least X G only all (timesOf after) u told keeps;
+          last = last;
+          bound = omega (arith, last, finish-bound X G only all (timesOf after) told ranged);
+          counted = ap (λ (x : Judged). x .moves) e ∙ out-sum X;
+        }
+
+-- both sentences, of what judging answers and leaves in the words
+pub judged-rightly : (s p words : List ℕ) (r : Judged) (after : List ℕ) → r ≡ judge s p (length words) → after ≡ wordsAfter s p words → JudgedRightly s p (length words) r after
+judged-rightly s p words r after e f = record {
+  verdict = verdict-published s p (length words) r e;
+  times = λ ok.
+      let (readable, accepted, long) = number-accepted s p (length words) (sym (ap (λ (x : Judged). x .outcome .number) e) ∙ ok) in
+      times-published s p readable accepted words after (f ∙ words-accepted s p readable accepted words long) r (e ∙ judge-accepted s p readable accepted (length words) long);
+}
 
 -- "Plans written are read back to the same orders"
 pub plans-read-back : ReadBack

@@ -1,6 +1,9 @@
 pub mod Numbers
 pub mod Verdict
 pub mod Words
+pub mod Copying
 pub mod Pointing
 pub mod Rings
-pub mod Examples
+pub mod Answers
+pub mod Reading
+pub mod Outcomes

@@ -1,5 +1,5 @@
 -- Where the carts settle tells the verdict: all are out, or there is a lowest cart that is stuck.
-use Prim.Native.Nat.{ℕ, _<_}
+use Prim.Native.Nat.{ℕ, _≤_, _<_}
 use mathlib.Core.Path.{_≡_, refl, sym, ap, _∙_}
 use mathlib.Core.Logic.{_↔_}
 use mathlib.Core.Bool.{true, false, not-eq-not}
@@ -63,6 +63,9 @@ module _ (sheet : Sheet) (orders : Orders) where
       each-out : (isOut sheet orders ≡ true) ↔ ((c : ℕ) → c < carts S → pos (atEnd sheet orders) c ≡ pos (S .out) c)
       each-out = all-below-says _ (carts S) (λ c. pos (atEnd sheet orders) c ≡ pos (S .out) c) (λ c. eqb-says (pos (atEnd sheet orders) c) (pos (S .out) c))
 
+  pub out-told : isOut sheet orders ≡ true → atEnd sheet orders ≡ S .out
+  out-told = is-out .0
+
   -- "The judge accepts exactly when" all come out
   pub accepts-out : (isOut sheet orders ≡ true) ↔ AllComeOut S (start S)
   accepts-out = (
@@ -90,7 +93,7 @@ module _ (sheet : Sheet) (orders : Orders) where
           (λ l. not-out r (omega (arith, plan-carts)) (stuck .not-out (omega (arith, plan-carts))))
 
       -- none is stuck: the plan is accepted
-      pub none-stuck : ¬ (r < 16) → isOut sheet orders ≡ true
+      pub none-stuck : 16 ≤ r → isOut sheet orders ≡ true
       none-stuck n =
           is-out .1 (ext-getD 0 (atEnd sheet orders) (S .out) (end-in-range .sized) λ c l.
           let few : c < 16 = omega (arith, end-in-range .sized, plan-carts) in

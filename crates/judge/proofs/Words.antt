@@ -96,8 +96,8 @@ module _ (sheet : Sheet) (orders : Orders) (v : Valid sheet) (w : ValidOrders sh
           (times-keep X G (plan-only sheet v orders w) (timesOf enter) is)
           ∙ finish-unique P G only all (timesOf enter) is-plan (enteringTime sheet orders) judged-times
 
-      pub words-told : length enter ≡ 128 → ((c p : ℕ) → p < 8 → ¬ (p < steps P c) → timesOf enter c p ≡ 0) → enter ≡ timeWords sheet orders
-      unfolding timeWords
+      pub words-told : length enter ≡ 128 → ((c p : ℕ) → p < 8 → ¬ (p < steps X c) → timesOf enter c p ≡ 0) → enter ≡ timeWords sheet orders
+      unfolding timeWords crossingOf
       words-told long unused = entries-is enter 128 _ long λ x l. ap (λ (y : ℕ). getD enter y 0) (sym (div-add-mod x 8)) ∙ go x (decLt (x % 8) (steps P (x / 8)))
         where
           go : (x : ℕ) → Dec (x % 8 < steps P (x / 8)) → timesOf enter (x / 8) (x % 8) ≡ pick (ltb (x % 8) (steps P (x / 8))) (enteringTime sheet orders (x / 8) (x % 8)) 0

@@ -5,7 +5,7 @@ use words::Outcome;
 ghost use Prim.Native.Nat.{_≤_, _<_};
 
 // The smaller one: keeps a count within the length of an array.
-fn least(a: usize, b: usize) -> usize
+pub fn least(a: usize, b: usize) -> usize
     ensures { λ r. ⌜ r ≤ b ⌝ }
 {
     if a < b { a } else { b }

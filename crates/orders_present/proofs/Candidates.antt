@@ -1,4 +1,4 @@
--- Where the two steps of an undecided pair stand, told by the rule or by the tables.
+-- Where the two steps of an undecided pair stand, as the tables tell it.
 use Prim.Native.Nat.{ℕ, _+_, _*_, _/_, _%_, _<_}
 use mathlib.Core.Path.{_≡_, refl, sym, ap, _∙_}
 use mathlib.Core.Bool.{true, false≢true}
@@ -12,7 +12,6 @@ use Rattle.sets.proofs.Laws.{has-none}
 use Rattle.routes.specs.Crossing.{route, steps, zone, stepIn}
 use Rattle.routes.proofs.Places.{place-below, place-names}
 use Rattle.removal.specs.Pairs.{Unplanned, Order}
-use Rattle.removal.specs.Present.{isUndecided}
 use Rattle.removal.proofs.Pairs.{Visiting, pair-says}
 use Rattle.removal.proofs.Candidates.{undecided-says}
 use Rattle.orders_present.specs.Unplanned.{unordered}
@@ -29,13 +28,6 @@ visitor-step U z c v = record {
 }
 
 module _ (U : Unplanned) (low high : ℕ) (decided : List Order) where
-  pub undecided-candidate : (o : Order) → isUndecided U low high decided (o .zone) (o .first) (o .second) ≡ true
-      → Candidate U low high decided o (8 * o .second + stepIn (unordered U) (o .second) (o .zone)) (8 * o .first + stepIn (unordered U) (o .first) (o .zone))
-  undecided-candidate o e =
-      let u = undecided-says U low high decided (o .zone) (o .first) (o .second) .0 e in
-      let ((first, second), _) = pair-says U (o .zone) (o .first) (o .second) .0 (u .is-in .pair) in
-      record { undecided = e; second = visitor-step U (o .zone) (o .second) second; first = visitor-step U (o .zone) (o .first) first }
-
   -- cart a is undecided with the step at x: an order of a before its cart can be decided there
   module _ (ahead behind undecided : List ℕ) (holds : Holds U low high decided ahead behind undecided) (x a : ℕ) (l : x < 128)
       (is : has (getD undecided x 0) a ≡ true) where

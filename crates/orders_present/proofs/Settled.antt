@@ -1,18 +1,16 @@
 -- The tables stand for the orders present: the carts that settle over them tell whether the moves have a cycle, and the entering times.
-use Prim.Native.Nat.{ℕ, suc, _+_, _*_, _<_}
-use mathlib.Core.Path.{_≡_, refl, sym, ap, _∙_, subst}
+use Prim.Native.Nat.{ℕ, _+_, _*_, _<_}
+use mathlib.Core.Path.{_≡_, sym, ap, _∙_, subst}
 use mathlib.Core.Logic.{_↔_}
 use mathlib.Core.Bool.{true}
-use mathlib.Core.List.{List, [], _∷_}
+use mathlib.Core.List.{List, []}
 use native.Mathlib.Decide.{decLt}
 use native.Mathlib.Omega.{arith}
 use lib.ListN.{length, getD, List·getD-eq-default}
 use Rattle.words.proofs.Entries.{length-entries}
 use Rattle.words.proofs.Tests.{and-both}
-use Rattle.moves.specs.System.{System, carts, start, _≼_, InRange, sum}
+use Rattle.moves.specs.System.{System, carts, start}
 use Rattle.moves.specs.Runs.{AllComeOut}
-use Rattle.moves.proofs.Positions.{≼-sum}
-use Rattle.moves.proofs.Runs.{start-in-range, reaches-in-range}
 use Rattle.routes.specs.Lists.{Named, isNamed}
 use Rattle.routes.specs.Crossing.{Crossing, steps}
 use Rattle.routes.specs.Moves.{system}
@@ -26,7 +24,7 @@ use Rattle.crossing.proofs.Tables.{step-below, route-is, before-is}
 use Rattle.crossing.proofs.SameOrders.{system-same, entering-orders}
 use Rattle.entering.specs.Times.{timesOf}
 use Rattle.running.specs.Settled.{SettlesAs}
-use Rattle.running.proofs.Verdict.{settled-out, settled-reached, settled-times}
+use Rattle.running.proofs.Verdict.{settled-out, settled-times}
 use Rattle.removal.specs.Pairs.{Unplanned, Order, visits}
 use Rattle.removal.specs.Present.{goesBefore, present}
 use Rattle.removal.specs.Running.{movesMade, isOut, enteringTime}
@@ -42,16 +40,6 @@ pub goes-visits : (U : Unplanned) (low high : ℕ) (decided : List Order) (z d c
 goes-visits U low high decided z d c e =
     let (v, w) = present-both U low high decided z d c e in
     (visits-says U d z .1 v, visits-says U c z .1 w)
-
--- positions within others that sum to the same are the same
-same-sum : (s t : List ℕ) → length s ≡ length t → s ≼ t → sum s ≡ sum t → s ≡ t
-same-sum [] [] e le is = refl
-same-sum [] (y ∷ t) e le is = absurd (omega arith)
-same-sum (x ∷ s) [] e le is = absurd (omega arith)
-same-sum (x ∷ s) (y ∷ t) e le is =
-    let more = ≼-sum s t (omega arith) (λ c. le (suc c)) in
-    let here : x ≡ y = omega (arith, le 0) in
-    rw here (ap (λ (u : List ℕ). y ∷ u) (same-sum s t (omega arith) (λ c. le (suc c)) (omega (arith, le 0))))
 
 -- the tables of a sheet, and of the orders present
 module _ (stepTable zoneTable lane arrival passing travel follow cross : List ℕ) (zones carts : ℕ) where
@@ -122,23 +110,11 @@ module _ (stepTable zoneTable lane arrival passing travel follow cross : List �
         }
 
     module _ (at left enter order : List ℕ) (made : ℕ) (settled : SettlesAs X G at left enter order made) where
-      at-in-range : InRange (system Z) at
-      at-in-range =
-          subst (λ (T : System). InRange T at) present-system
-          (reaches-in-range (system X) (start (system X)) at (start-in-range (system X)) (settled-reached X G at left enter order made settled))
-
       -- whether the moves have no cycle is whether the carts settle out
       pub present-out : (isOut Z ≡ true) ↔ (at ≡ system Z .out)
       present-out =
           let says = subst (λ (T : System). AllComeOut T (start T) ↔ (at ≡ T .out)) present-system (settled-out X G at left enter order made settled) in
           (λ e. says .0 (out-says Z .0 e), λ e. out-says Z .1 (says .1 e))
-
-      -- and that is whether all moves are made
-      pub present-made : (isOut Z ≡ true) ↔ (made ≡ sum (system Z .out))
-      present-made = (
-        λ e. settled .counted ∙ ap sum (present-out .0 e),
-        λ e. present-out .1 (same-sum at (system Z .out) (at-in-range .sized) (at-in-range .within) (sym (settled .counted) ∙ e)),
-      )
 
       -- then the table has the entering times of the orders present
       pub present-times : isOut Z ≡ true → (c s : ℕ) → s < steps Z c → timesOf enter c s ≡ enteringTime Z G (movesMade Z) c s

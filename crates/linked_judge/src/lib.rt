@@ -1,4 +1,4 @@
-// What C and Rust call of the judge (include/oblakosh.h): the operations themselves, under the names of their own that C needs.
+// What C and Rust call of the judge (include/oblakosh.h): the operations themselves, under names that C can call.
 use judge::Judged;
 use plan::PlanRead;
 use sheet::SheetRead;

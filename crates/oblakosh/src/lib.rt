@@ -1,5 +1,5 @@
-// What C and Rust call (include/oblakosh.h): the judge's three functions once more, and the other operations but the routine that moves carts,
-// which lends its record on to nobody and is exported where it is written (`moving`).
+// What C and Rust call (include/oblakosh.h): the judge's three functions once more, and the other operations.
+// The routine that moves carts is exported by its own crate, `moving`: no function here could hand a `&mut` record on to it.
 use asking::Asked;
 use judge::Judged;
 use plan::PlanRead;

@@ -45,7 +45,7 @@ pub fn judging_a_plan(s: &[u8], p: &[u8], words: &mut [u32]) -> Judged
     judge::judge(s, p, words)
 }
 
-// The routine `moving::move_cart` lends its record on; its own contract is what `moving-a-cart` and `drivers-start` speak of.
+// The routine `moving::oblakosh_move_cart` lends its record on; its own contract is what `moving-a-cart` and `drivers-start` speak of.
 pub fn asking_to_move(s: &[u8], p: &[u8], lent: Record, cart: usize) -> Asked
     ensures demand_one { λ r. ⌜ AskingToMove (now (s .entry)) (now (p .entry)) lent cart r ⌝ }
 {

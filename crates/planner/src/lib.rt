@@ -3,6 +3,7 @@ ghost use mathlib.Core.Path.{_≡_};
 ghost use Rattle.planner.specs.Planning.{notPlanned};
 
 // What planning answers: done with the plan's length and finish, or a refusal with both 0.
+#[repr(C)]
 pub struct Planned {
     pub outcome: Outcome,
     pub length: usize,

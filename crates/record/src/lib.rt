@@ -11,6 +11,7 @@ ghost use Rattle.lists.specs.Sets.{Routes};
 ghost use Rattle.record.specs.Tables.{NonePastOut, zonesLeft, InZones, InTurn, AllInTurn, notReached, Orderly, TestedAs};
 
 // The crossing record: where each cart stands, 0 on the lane, k in its k-th zone, steps + 1 out, and how many moves were made. All zero is the start.
+#[repr(C)]
 pub struct Record {
     pub position: [u8; 16],
     pub made: u32,

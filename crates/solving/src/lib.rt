@@ -1,0 +1,108 @@
+ghost use Rattle.solving.specs.Trying.{Triable, Tries};
+ghost use Rattle.solving.specs.Solving.{Solves};
+
+// STUB
+fn try_group<'a>(
+    steps: &'a [u8; 16],
+    zone: &'a [u8; 128],
+    lane: &'a [u8; 16],
+    arrival: &'a [u32; 16],
+    passing: &'a [u16; 128],
+    travel: &'a [u16; 128],
+    follow: &'a [u16; 24],
+    cross: &'a [u16; 24],
+    ranks: &[u8; 16],
+    pairs: &[u16; 128],
+    visit: &[u8; 384],
+    ahead: &mut [u16; 128],
+    behind: &mut [u16; 128],
+    undecided: &mut [u16; 128],
+    low: usize,
+    high: usize,
+) -> bool
+    requires { ⌜ Triable low high (now steps) (now zone) (now lane) (now arrival) (now passing) (now travel) (now follow) (now cross) (now ranks) (now pairs) (now visit) (now ahead) (now behind) (now undecided) ⌝ }
+    ensures { λ r. ⌜ Tries low high (now (steps .entry)) (now (zone .entry)) (now (lane .entry)) (now (arrival .entry)) (now (passing .entry)) (now (travel .entry)) (now (follow .entry)) (now (cross .entry)) (now (ranks .entry)) (now (pairs .entry)) (now (visit .entry)) (now (ahead .entry)) (now (behind .entry)) (now (undecided .entry)) (now (ahead .exit)) (now (behind .exit)) (now (undecided .exit)) r ⌝ }
+{
+    low == high
+}
+
+// The group of the ranks from `low` on, below `high`, is solved: where its trial fails, each half is, lower ranks first.
+pub fn solve<'a>(
+    steps: &'a [u8; 16],
+    zone: &'a [u8; 128],
+    lane: &'a [u8; 16],
+    arrival: &'a [u32; 16],
+    passing: &'a [u16; 128],
+    travel: &'a [u16; 128],
+    follow: &'a [u16; 24],
+    cross: &'a [u16; 24],
+    ranks: &[u8; 16],
+    pairs: &[u16; 128],
+    visit: &[u8; 384],
+    ahead: &mut [u16; 128],
+    behind: &mut [u16; 128],
+    undecided: &mut [u16; 128],
+    low: usize,
+    high: usize,
+)
+    requires { ⌜ Triable low high (now steps) (now zone) (now lane) (now arrival) (now passing) (now travel) (now follow) (now cross) (now ranks) (now pairs) (now visit) (now ahead) (now behind) (now undecided) ⌝ }
+    ensures { λ r. ⌜ Solves low high (now (steps .entry)) (now (zone .entry)) (now (lane .entry)) (now (arrival .entry)) (now (passing .entry)) (now (travel .entry)) (now (follow .entry)) (now (cross .entry)) (now (ranks .entry)) (now (pairs .entry)) (now (visit .entry)) (now (ahead .entry)) (now (behind .entry)) (now (undecided .entry)) (now (ahead .exit)) (now (behind .exit)) (now (undecided .exit)) ⌝ }
+{
+    if try_group(
+        steps,
+        zone,
+        lane,
+        arrival,
+        passing,
+        travel,
+        follow,
+        cross,
+        ranks,
+        pairs,
+        visit,
+        ahead,
+        behind,
+        undecided,
+        low,
+        high,
+    ) {
+        return;
+    }
+    let mid = low + (high - low) / 2;
+    solve(
+        steps,
+        zone,
+        lane,
+        arrival,
+        passing,
+        travel,
+        follow,
+        cross,
+        ranks,
+        pairs,
+        visit,
+        ahead,
+        behind,
+        undecided,
+        low,
+        mid,
+    );
+    solve(
+        steps,
+        zone,
+        lane,
+        arrival,
+        passing,
+        travel,
+        follow,
+        cross,
+        ranks,
+        pairs,
+        visit,
+        ahead,
+        behind,
+        undecided,
+        mid,
+        high,
+    );
+}

@@ -61,15 +61,15 @@ joined-unused carts among pairs old now is long k none no-more =
 
 module _ (U : Unplanned) (plannable : Plannable U) where
   -- who is in a pair is a cart
-  pair-cart : (z d c : ℕ) → isPair U z d c ≡ true → d < 16
+  pair-cart : (z d c : ℕ) → isPair U z d c ≡ true → d < U .carts
   unfolding isPair
   pair-cart z d c e =
       let (both, _) = and-both (visits U d z && visits U c z) (not (sameLane U d c)) e in
       let (j, h, _) = named-says (getD (U .routes) d []) z .0 (and-both (visits U d z) (visits U c z) both .0) in
-      omega (arith, plannable .step-cart d j h, plannable .carts-most)
+      plannable .step-cart d j h
 
   -- the carts of a step's pairs that are in a set of carts, as the set's test tells
-  among-pairs : (z c set sharing : ℕ) (test : ℕ → Bool) → ((d : ℕ) → d < 16 → has set d ≡ test d) → ((d : ℕ) → has sharing d ≡ isPair U z d c)
+  among-pairs : (z c set sharing : ℕ) (test : ℕ → Bool) → ((d : ℕ) → d < U .carts → has set d ≡ test d) → ((d : ℕ) → has sharing d ≡ isPair U z d c)
       → (d : ℕ) → (has sharing d && has set d) ≡ (isPair U z d c && test d)
   among-pairs z c set sharing test is pairs d = ap (λ (b : Bool). b && has set d) (pairs d) ∙ go (isPair U z d c) refl
     where
@@ -80,9 +80,9 @@ module _ (U : Unplanned) (plannable : Plannable U) where
 module _ (low high : ℕ) (ranks pairs : List ℕ) (from above within : ℕ)
     (from-is : from ≡ setBelow 16 (λ c. leb low (getD ranks c 0))) (above-is : above ≡ setBelow 16 (λ c. leb high (getD ranks c 0)))
     (within-is : Less from above within) where
-  module _ (U : Unplanned) (has-ranks : HasRanks U ranks) (c : ℕ) (l : c < 16) where
+  module _ (U : Unplanned) (plannable : Plannable U) (has-ranks : HasRanks U ranks) (c : ℕ) (l : c < U .carts) where
     at-least : (least set : ℕ) → set ≡ setBelow 16 (λ d. leb least (getD ranks d 0)) → has set c ≡ leb least (rank U c)
-    at-least least set is = set-has 16 _ set is c l ∙ ap (leb least) (has-ranks .at-cart c l)
+    at-least least set is = set-has 16 _ set is c (omega (arith, plannable .carts-most)) ∙ ap (leb least) (has-ranks .at-cart c l)
 
     above-says : has above c ≡ leb high (rank U c)
     above-says = at-least high above above-is
@@ -123,10 +123,10 @@ module _ (low high : ℕ) (ranks pairs : List ℕ) (from above within : ℕ)
               let z = zone (unordered U) c j in
               let is = old .at-step c j h in
               let few : j < 8 = omega (arith, p .ranged .steps-most c) in
-              let l : c < 16 = omega (arith, p .step-cart c j h, p .carts-most) in
-              let place : 8 * c + j < 128 = omega arith in
-              let in-above = above-says U has-ranks c l in
-              let in-group = within-says U has-ranks c l in
+              let l = p .step-cart c j h in
+              let place : 8 * c + j < 128 = omega (arith, p .carts-most) in
+              let in-above = above-says U p has-ranks c l in
+              let in-group = within-says U p has-ranks c l in
               let row = row-at c j few in
               let shared = among-pairs U p z c in
               let pair : (d : ℕ) → has (getD pairs (8 * c + j) 0) d ≡ isPair U z d c = λ d. has-pairs .at-step c j d h in
@@ -134,20 +134,20 @@ module _ (low high : ℕ) (ranks pairs : List ℕ) (from above within : ℕ)
                 ahead-is = λ d.
                     a-is .passed (8 * c + j) place (omega (arith, old .ahead-128)) d
                     ∙ ap₂ _||_ (is .ahead-is d)
-                    (ap₂ _&&_ (ap (has above) row ∙ in-above) (shared within _ (λ d. inGroup low high (rank U d)) (within-says U has-ranks) pair d)
+                    (ap₂ _&&_ (ap (has above) row ∙ in-above) (shared within _ (λ d. inGroup low high (rank U d)) (within-says U p has-ranks) pair d)
                     ∙ turn-about (leb high (rank U c)) (isPair U z d c) (inGroup low high (rank U d)))
                     ∙ sym (opens-before U z d c low high decided rising below);
                 behind-is = λ d.
                     b-is .passed (8 * c + j) place (omega (arith, old .behind-128)) d
                     ∙ ap₂ _||_ (is .behind-is d)
-                    (ap₂ _&&_ (ap (has within) row ∙ in-group) (shared above _ (λ d. leb high (rank U d)) (above-says U has-ranks) pair d)
+                    (ap₂ _&&_ (ap (has within) row ∙ in-group) (shared above _ (λ d. leb high (rank U d)) (above-says U p has-ranks) pair d)
                     ∙ swap-about (inGroup low high (rank U c)) (isPair U z d c) (leb high (rank U d))
                     ∙ ap (λ (b : Bool). b && (inGroup low high (rank U c) && leb high (rank U d))) (pair-turned U z d c))
                     ∙ sym (opens-before U z c d low high decided rising below);
                 undecided-is = λ d.
                     u-is .passed (8 * c + j) place (omega (arith, old .undecided-128)) d
                     ∙ ap₂ _||_ (is .undecided-is d ∙ none-undecided U z d c low decided)
-                    (ap₂ _&&_ (ap (has within) row ∙ in-group) (shared within _ (λ d. inGroup low high (rank U d)) (within-says U has-ranks) pair d)
+                    (ap₂ _&&_ (ap (has within) row ∙ in-group) (shared within _ (λ d. inGroup low high (rank U d)) (within-says U p has-ranks) pair d)
                     ∙ turn-about (inGroup low high (rank U c)) (isPair U z d c) (inGroup low high (rank U d)))
                     ∙ sym (opens-undecided U z d c low high decided rising below);
               };

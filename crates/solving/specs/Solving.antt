@@ -3,11 +3,11 @@ use Prim.Native.Nat.{ℕ, _-_, _<_}
 use mathlib.Core.List.{List}
 use Rattle.removal.specs.Pairs.{Unplanned, Order}
 use Rattle.removal.specs.Removal.{solved}
-use Rattle.solving.specs.Trying.{Told, Solved}
+use Rattle.trials.specs.Trying.{Told, Solved}
 
--- the tables held the ranks below the group solved, and hold those of the group too; `depth` is any number above the group's size
-pub record Solves (low high : ℕ)
-    (steps zone lane arrival passing travel follow cross ranks pairs visit ahead behind undecided ahead′ behind′ undecided′ : List ℕ) : Type 0 where
-  pub holds : (U : Unplanned) → Told U steps zone lane arrival passing travel follow cross ranks pairs visit
-      → (decided : List Order) → Solved U low decided ahead behind undecided
-      → (depth : ℕ) → high - low < depth → Solved U high (solved U depth low high decided) ahead′ behind′ undecided′
+module _ (steps zone lane arrival passing travel follow cross ranks pairs visit : List ℕ) (low high : ℕ) (ahead behind undecided : List ℕ) where
+  -- the tables held the ranks below the group solved, and now hold the group's too; `depth` is any number above the group's size
+  pub record Solves (ahead′ behind′ undecided′ : List ℕ) : Type 0 where
+    pub holds : (U : Unplanned) → Told U steps zone lane arrival passing travel follow cross ranks pairs visit
+        → (decided : List Order) → Solved U low decided ahead behind undecided
+        → (depth : ℕ) → high - low < depth → Solved U high (solved U depth low high decided) ahead′ behind′ undecided′

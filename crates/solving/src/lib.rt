@@ -1,4 +1,4 @@
-ghost use Rattle.solving.specs.Trying.{Triable, Tries};
+ghost use Rattle.trials.specs.Trying.{Triable, Tries};
 ghost use Rattle.solving.specs.Solving.{Solves};
 
 // STUB
@@ -20,8 +20,8 @@ fn try_group<'a>(
     low: usize,
     high: usize,
 ) -> bool
-    requires { ⌜ Triable low high (now steps) (now zone) (now lane) (now arrival) (now passing) (now travel) (now follow) (now cross) (now ranks) (now pairs) (now visit) (now ahead) (now behind) (now undecided) ⌝ }
-    ensures { λ r. ⌜ Tries low high (now (steps .entry)) (now (zone .entry)) (now (lane .entry)) (now (arrival .entry)) (now (passing .entry)) (now (travel .entry)) (now (follow .entry)) (now (cross .entry)) (now (ranks .entry)) (now (pairs .entry)) (now (visit .entry)) (now (ahead .entry)) (now (behind .entry)) (now (undecided .entry)) (now (ahead .exit)) (now (behind .exit)) (now (undecided .exit)) r ⌝ }
+    requires { ⌜ Triable (now steps) (now zone) (now lane) (now arrival) (now passing) (now travel) (now follow) (now cross) (now ranks) (now pairs) (now visit) low high (now ahead) (now behind) (now undecided) ⌝ }
+    ensures { λ r. ⌜ Tries (now (steps .entry)) (now (zone .entry)) (now (lane .entry)) (now (arrival .entry)) (now (passing .entry)) (now (travel .entry)) (now (follow .entry)) (now (cross .entry)) (now (ranks .entry)) (now (pairs .entry)) (now (visit .entry)) low high (now (ahead .entry)) (now (behind .entry)) (now (undecided .entry)) (now (ahead .exit)) (now (behind .exit)) (now (undecided .exit)) r ⌝ }
 {
     low == high
 }
@@ -45,8 +45,8 @@ pub fn solve<'a>(
     low: usize,
     high: usize,
 )
-    requires { ⌜ Triable low high (now steps) (now zone) (now lane) (now arrival) (now passing) (now travel) (now follow) (now cross) (now ranks) (now pairs) (now visit) (now ahead) (now behind) (now undecided) ⌝ }
-    ensures { λ r. ⌜ Solves low high (now (steps .entry)) (now (zone .entry)) (now (lane .entry)) (now (arrival .entry)) (now (passing .entry)) (now (travel .entry)) (now (follow .entry)) (now (cross .entry)) (now (ranks .entry)) (now (pairs .entry)) (now (visit .entry)) (now (ahead .entry)) (now (behind .entry)) (now (undecided .entry)) (now (ahead .exit)) (now (behind .exit)) (now (undecided .exit)) ⌝ }
+    requires { ⌜ Triable (now steps) (now zone) (now lane) (now arrival) (now passing) (now travel) (now follow) (now cross) (now ranks) (now pairs) (now visit) low high (now ahead) (now behind) (now undecided) ⌝ }
+    ensures { λ r. ⌜ Solves (now (steps .entry)) (now (zone .entry)) (now (lane .entry)) (now (arrival .entry)) (now (passing .entry)) (now (travel .entry)) (now (follow .entry)) (now (cross .entry)) (now (ranks .entry)) (now (pairs .entry)) (now (visit .entry)) low high (now (ahead .entry)) (now (behind .entry)) (now (undecided .entry)) (now (ahead .exit)) (now (behind .exit)) (now (undecided .exit)) ⌝ }
 {
     if try_group(
         steps,

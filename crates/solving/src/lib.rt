@@ -1,5 +1,12 @@
+use groups::start_orders;
+use lists::who_visits;
+use ranks::ranks;
+use sheet::Sheet;
+use visiting::visit_places;
 ghost use Rattle.trials.specs.Trying.{Triable, Tries};
+ghost use Rattle.sheet.specs.Valid.{Valid};
 ghost use Rattle.solving.specs.Solving.{Solves};
+ghost use Rattle.solving.specs.Final.{FinalOrders};
 
 // STUB
 fn try_group<'a>(
@@ -105,4 +112,48 @@ pub fn solve<'a>(
         mid,
         high,
     );
+}
+
+// A valid sheet's orders when the group of all ranks is solved: for each step the carts ahead.
+pub fn solve_sheet(sheet: Sheet) -> [u16; 128]
+    requires { ⌜ Valid sheet ⌝ }
+    ensures { λ r. ⌜ FinalOrders sheet r ⌝ }
+{
+    let steps = sheet.steps;
+    let zone = sheet.zone;
+    let who = who_visits(&steps, &zone);
+    let ranked = ranks(&sheet.arrival, sheet.carts);
+    let visit = visit_places(&sheet.steps, &sheet.zone);
+    let mut ahead = [0u16; 128];
+    let mut behind = [0u16; 128];
+    let mut undecided = [0u16; 128];
+    let mut pairs = [0u16; 128];
+    start_orders(
+        &sheet.steps,
+        &sheet.zone,
+        &sheet.lane,
+        &who,
+        &mut ahead,
+        &mut behind,
+        &mut pairs,
+    );
+    solve(
+        &sheet.steps,
+        &sheet.zone,
+        &sheet.lane,
+        &sheet.arrival,
+        &sheet.passing,
+        &sheet.travel,
+        &sheet.follow,
+        &sheet.cross,
+        &ranked,
+        &pairs,
+        &visit,
+        &mut ahead,
+        &mut behind,
+        &mut undecided,
+        0,
+        sheet.carts,
+    );
+    ahead
 }

@@ -1,7 +1,12 @@
+use finish::finish_of;
+use lists::who_visits;
+use passing_lists::passing_lists;
 use plan::sum_of;
 use plan_writer::write_plan;
 use reader::read_sheet;
+use running::settle;
 use sheet::Sheet;
+use solving::solve_sheet;
 use words::Outcome;
 use words::refused;
 ghost use mathlib.Core.Path.{_≡_};
@@ -17,15 +22,37 @@ pub struct ListsPlanned {
     pub finish: u32,
 }
 
-// STUB
+// The orders that the removal rule gives a valid sheet, and their finish.
 fn plan_orders(sheet: Sheet) -> ListsPlanned
     requires { ⌜ Valid sheet ⌝ }
     ensures { λ r. ⌜ r ≡ listsPlanned sheet ⌝ }
 {
+    let ahead = solve_sheet(sheet);
+    let steps = sheet.steps;
+    let zone = sheet.zone;
+    let who = who_visits(&steps, &zone);
+    let lists = passing_lists(&sheet.steps, &sheet.zone, &who, &ahead);
+    let mut enter = [0u32; 128];
+    let mut order = [0u8; 144];
+    settle(
+        &sheet.steps,
+        &sheet.zone,
+        &ahead,
+        &sheet.lane,
+        &sheet.arrival,
+        &sheet.passing,
+        &sheet.travel,
+        &sheet.follow,
+        &sheet.cross,
+        &mut enter,
+        &mut order,
+    );
+    let count = lists.count;
+    let list = lists.list;
     ListsPlanned {
-        count: [0u8; 24],
-        list: [0u8; 384],
-        finish: 0,
+        count,
+        list,
+        finish: finish_of(&sheet.steps, &sheet.passing, &enter),
     }
 }
 

@@ -1,7 +1,7 @@
 -- A table joined place by place; three tables joined so are those of the opened group.
-use Prim.Native.Nat.{ℕ, _+_, _*_, _/_, _≤_, _<_}
+use Prim.Native.Nat.{ℕ, _+_, _*_, _/_, _<_}
 use mathlib.Core.Path.{_≡_, refl, sym, ap, ap₂, _∙_}
-use mathlib.Core.Bool.{Bool, true, false, not, _&&_, _||_, and-comm, and-false, not-eq-not, Bool·not-not}
+use mathlib.Core.Bool.{Bool, true, false, not, _&&_, _||_, and-false, Bool·not-not}
 use mathlib.Core.List.{List, []}
 use native.Mathlib.Decide.{decLt, ℕ-discrete}
 use native.Mathlib.Omega.{arith}
@@ -13,16 +13,15 @@ use Rattle.words.proofs.Tests.{and-both}
 use Rattle.sets.specs.Member.{has, Less}
 use Rattle.sets.specs.Counting.{setBelow}
 use Rattle.sets.proofs.Laws.{has-none, has-same}
-use Rattle.routes.specs.Crossing.{steps, zone}
+use Rattle.routes.specs.Crossing.{zone}
 use Rattle.routes.proofs.Places.{named-says}
-use Rattle.removal.specs.Pairs.{Unplanned, Order, rank, visits, sameLane, isPair}
-use Rattle.removal.specs.Present.{inGroup, goesBefore, isUndecided}
+use Rattle.removal.specs.Pairs.{Unplanned, rank, visits, sameLane, isPair}
+use Rattle.removal.specs.Present.{inGroup}
 use Rattle.orders_present.specs.Unplanned.{unordered, Plannable}
-use Rattle.orders_present.specs.Holds.{StepHolds, Holds, Below}
 use Rattle.orders_present.proofs.Ranks.{leb-not}
 use Rattle.orders_present.proofs.Added.{pair-turned}
 use Rattle.orders_present.proofs.Groups.{opens-before, opens-undecided, none-undecided}
-use Rattle.groups.specs.Pairs.{HasRanks, HasPairs}
+use Rattle.groups.specs.Pairs.{HasRanks}
 use Rattle.groups.specs.Opening.{Joined, JoinedTo, Opens}
 use Rattle.groups.proofs.Sets.{set-has}
 

@@ -3,7 +3,7 @@ use Prim.Native.Nat.{ℕ, zero, suc, _+_, _-_, _*_, _/_, _%_, _^_, _≤_, _<_}
 use mathlib.Core.Path.{_≡_, refl, sym, ap, ap₂, _∙_, subst}
 use mathlib.Core.Bool.{Bool, true, false, not, _&&_, and-comm, and-true}
 use mathlib.Core.List.{List, []}
-use native.Mathlib.Nat.{one-mul, mod-eq-of-lt, two-pow-succ, div-add-mod, mod-lt}
+use native.Mathlib.Nat.{one-mul, mod-eq-of-lt, two-pow-succ, div-add-mod}
 use native.Mathlib.Decide.{decLt, ℕ-discrete}
 use native.Mathlib.Omega.{arith}
 use lib.ListN.{length, getD, set, replicate, length-set, length-replicate, List·getD-eq-default}

@@ -15,9 +15,6 @@ use borrow.Author.Tests.{lt-ltb, le-ltb, eqb-true, eq-eqb}
 use Rattle.words.specs.Lists.{pick, entries}
 use Rattle.words.proofs.Entries.{length-entries, getD-entries, at-entry, entries-is, same-entries}
 use Rattle.words.proofs.Tests.{and-both}
-use Rattle.sets.specs.Member.{has}
-use Rattle.sets.specs.Counting.{countBelow, setBelow}
-use Rattle.sets.proofs.Laws.{has-same}
 use Rattle.sets.proofs.Counting.{count-most, count-none}
 use Rattle.moves.specs.Search.{lowest, IsLowest}
 use Rattle.moves.proofs.Search.{lowest-is}
@@ -28,11 +25,10 @@ use Rattle.lists.specs.Sets.{Routes, whoVisits}
 use Rattle.crossing.specs.Tables.{crossingOf}
 use Rattle.crossing.proofs.Tables.{steps-is, zone-is}
 use Rattle.removal.specs.Pairs.{Unplanned, Order, visits}
-use Rattle.removal.specs.Present.{goesBefore, present}
-use Rattle.removal.specs.Removal.{finalOrders, passingCart, visitors, passingLists}
+use Rattle.removal.specs.Present.{present}
+use Rattle.removal.specs.Removal.{passingCart, visitors, passingLists}
 use Rattle.orders_present.specs.Unplanned.{unplannedOf, unordered, Plannable}
 use Rattle.orders_present.specs.Holds.{Holds}
-use Rattle.groups.proofs.Sets.{has-all}
 use Rattle.groups.proofs.Visitors.{visitors-says}
 use Rattle.passing_lists.specs.declared.PassingLists.{PassingLists}
 use Rattle.passing_lists.specs.Places.{IsStep, zoneAt, placeAt, Placeable, EntryOf, PlacedTo, Listed}

@@ -18,7 +18,7 @@ use Rattle.routes.specs.Crossing.{Crossing, Visits}
 use Rattle.routes.specs.Orders.{StrictOrder}
 use Rattle.routes.proofs.Places.{named-says}
 use Rattle.removal.specs.Pairs.{Unplanned, Order, visits}
-use Rattle.removal.specs.Present.{goesBefore, present}
+use Rattle.removal.specs.Present.{present}
 use Rattle.removal.specs.Removal.{visitors}
 use Rattle.orders_present.specs.Unplanned.{Plannable}
 use Rattle.orders_present.proofs.Settled.{goes-visits}

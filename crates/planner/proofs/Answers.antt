@@ -21,7 +21,6 @@ use Rattle.sheet.proofs.Refused.{refused-fails}
 use Rattle.sheet.proofs.Accepted.{accepted-valid}
 use Rattle.plan.specs.Valid.{planLength}
 use Rattle.plan.specs.Written.{listBytes, listsBytes, written}
-use Rattle.plan.specs.declared.Orders.{Orders}
 use Rattle.plan_writer.specs.Writing.{lent, Writable}
 use Rattle.plan_writer.proofs.AgainLaws.{orders-writable}
 use Rattle.planner.specs.Planning.{plannedOrders, planned, notPlanned, planSheet, roomAfter}

@@ -1,13 +1,12 @@
 -- The final orders' tables: their lists are the plan's, and the carts that settle over them give its finish.
 use Prim.Native.Nat.{ℕ}
-use mathlib.Core.Path.{_≡_, refl, sym, ap, ap₂, _∙_}
+use mathlib.Core.Path.{_≡_, refl, sym, ap, _∙_}
 use mathlib.Core.Bool.{true}
 use mathlib.Core.List.{List}
-use native.Mathlib.Omega.{arith}
 use Rattle.moves.specs.System.{System}
 use Rattle.routes.specs.Crossing.{Crossing}
 use Rattle.routes.specs.Moves.{system}
-use Rattle.times.specs.Times.{largest, Given, finish, EnteringTimes}
+use Rattle.times.specs.Times.{largest, Given, finish}
 use Rattle.times.proofs.Rules.{times-keep}
 use Rattle.sheet.specs.Valid.{Valid}
 use Rattle.sheet.specs.declared.Sheet.{Sheet}

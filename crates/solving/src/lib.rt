@@ -34,7 +34,8 @@ fn try_group<'a>(
 }
 
 // The group of the ranks from `low` on, below `high`, is solved: where its trial fails, each half is, lower ranks first.
-pub fn solve<'a>(
+// A group of one rank has no pair, so its trial does not fail: of 16 carts at most four levels have pairs.
+fn solve<'a>(
     steps: &'a [u8; 16],
     zone: &'a [u8; 128],
     lane: &'a [u8; 16],

@@ -2,16 +2,13 @@
 use costs::Choice;
 use costs::largest_cost;
 use finish::finish_of;
-use groups::open_group;
 use orders_present::decide;
 use orders_present::turn_round;
 use ring::lowest_stuck;
 use running::settle;
 use spare::spare_times;
-ghost use mathlib.Core.Path.{_≡_};
 ghost use Rattle.crossing.specs.Tables.{crossingOf, givenOf};
-ghost use Rattle.trials.specs.Turns.{Runnable, Runs, orderOf, Undecided, Chooses, Decides, Ends, OnTrial, Decidable, OfAll};
-ghost use Rattle.trials.specs.Trying.{Triable, Tries};
+ghost use Rattle.trials.specs.Turns.{Runnable, Runs, Choosable, Chosen, Decidable, Decided};
 
 // A run over the orders present: whether all carts come out, and how many moves are made.
 pub struct Run {
@@ -55,4 +52,95 @@ fn run_out<'a>(
         out: 16 <= lowest_stuck(steps, &at),
         made: settled.made,
     }
+}
+
+// The order of largest cost among the undecided pairs, by the times of the run.
+fn choose<'a>(
+    steps: &'a [u8; 16],
+    zone: &'a [u8; 128],
+    passing: &'a [u16; 128],
+    cross: &'a [u16; 24],
+    ranks: &[u8; 16],
+    visit: &[u8; 384],
+    behind: &[u16; 128],
+    undecided: &[u16; 128],
+    enter: &[u32; 128],
+    order: &[u8; 144],
+    run: Run,
+) -> Choice
+    requires { ⌜ Choosable (now steps) (now zone) (now passing) (now cross) (now ranks) (now visit) (now behind) (now undecided) (now enter) (now order) run ⌝ }
+    ensures { λ r. ⌜ Chosen (now (steps .entry)) (now (zone .entry)) (now (passing .entry)) (now (cross .entry)) (now (ranks .entry)) (now (visit .entry)) (now (behind .entry)) (now (undecided .entry)) (now (enter .entry)) (now (order .entry)) run r ⌝ }
+{
+    let made = run.made;
+    let finish = finish_of(steps, passing, enter);
+    let mut spare = [0u32; 128];
+    spare_times(
+        steps,
+        zone,
+        passing,
+        behind,
+        visit,
+        enter,
+        order,
+        made,
+        finish,
+        &mut spare,
+    );
+    largest_cost(zone, cross, passing, ranks, visit, undecided, enter, &spare)
+}
+
+// The opposite of cart `first` before the cart of the step at `step` is decided; where carts are stuck then, this direction instead.
+fn decide_either<'a>(
+    steps: &'a [u8; 16],
+    zone: &'a [u8; 128],
+    lane: &'a [u8; 16],
+    arrival: &'a [u32; 16],
+    passing: &'a [u16; 128],
+    travel: &'a [u16; 128],
+    follow: &'a [u16; 24],
+    cross: &'a [u16; 24],
+    visit: &[u8; 384],
+    ahead: &mut [u16; 128],
+    behind: &mut [u16; 128],
+    undecided: &mut [u16; 128],
+    enter: &mut [u32; 128],
+    order: &mut [u8; 144],
+    step: usize,
+    first: usize,
+) -> Run
+    requires { ⌜ Decidable (now steps) (now zone) (now lane) (now arrival) (now passing) (now travel) (now follow) (now cross) (now visit) (now ahead) (now behind) (now undecided) step first (now order) ⌝ }
+    ensures { λ r. ⌜ Decided (now (steps .entry)) (now (zone .entry)) (now (lane .entry)) (now (arrival .entry)) (now (passing .entry)) (now (travel .entry)) (now (follow .entry)) (now (cross .entry)) (now (visit .entry)) (now (ahead .entry)) (now (behind .entry)) (now (undecided .entry)) step first (now (ahead .exit)) (now (behind .exit)) (now (undecided .exit)) (now (enter .exit)) (now (order .exit)) r ⌝ }
+{
+    let other = visit[16 * zone[step] as usize + first] as usize;
+    decide(ahead, behind, undecided, other, step);
+    let run = run_out(
+        steps,
+        zone,
+        lane,
+        arrival,
+        passing,
+        travel,
+        follow,
+        cross,
+        ahead,
+        enter,
+        order,
+    );
+    if run.out {
+        return run;
+    }
+    turn_round(ahead, behind, other, step);
+    run_out(
+        steps,
+        zone,
+        lane,
+        arrival,
+        passing,
+        travel,
+        follow,
+        cross,
+        ahead,
+        enter,
+        order,
+    )
 }

@@ -111,3 +111,14 @@ module _ (steps zone lane arrival passing travel follow cross visit ahead behind
     pub runs : Runs (crossingOf steps zone ahead′) (givenOf lane arrival passing travel follow cross) enter order run
     pub decides : (ranks pairs : List ℕ) → OfAll steps zone lane arrival passing travel follow cross ranks pairs visit ahead behind undecided
         (λ U low high decided. Decides U low high decided (orderOf zone step first) ahead′ behind′ undecided′ (run .out))
+
+-- orders are decided until no pair is left undecided
+module _ (steps zone lane arrival passing travel follow cross ranks visit ahead behind undecided : List ℕ) where
+  pub record OnTrial (enter order : List ℕ) (run : Run) : Type 0 where
+    pub pairs : List ℕ
+    pub underway : Underway steps zone lane arrival passing travel follow cross ranks pairs visit ahead behind undecided
+    pub runs-out : RunsOut (crossingOf steps zone ahead) (givenOf lane arrival passing travel follow cross) enter order run
+
+  pub record AllTried (ahead′ behind′ undecided′ : List ℕ) (found : Bool) : Type 0 where
+    pub ends : (pairs : List ℕ) → OfAll steps zone lane arrival passing travel follow cross ranks pairs visit ahead behind undecided
+        (λ U low high decided. Ends U low high decided ahead′ behind′ undecided′ found)

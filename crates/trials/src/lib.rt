@@ -8,7 +8,7 @@ use ring::lowest_stuck;
 use running::settle;
 use spare::spare_times;
 ghost use Rattle.crossing.specs.Tables.{crossingOf, givenOf};
-ghost use Rattle.trials.specs.Turns.{Runnable, Runs, Choosable, Chosen, Decidable, Decided};
+ghost use Rattle.trials.specs.Turns.{Runnable, Runs, Choosable, Chosen, Decidable, Decided, OnTrial, AllTried};
 
 // A run over the orders present: whether all carts come out, and how many moves are made.
 pub struct Run {
@@ -143,4 +143,66 @@ fn decide_either<'a>(
         enter,
         order,
     )
+}
+
+// While a pair is undecided an order is chosen and decided; tells whether all are decided, or neither direction of one came out.
+fn try_pairs<'a>(
+    steps: &'a [u8; 16],
+    zone: &'a [u8; 128],
+    lane: &'a [u8; 16],
+    arrival: &'a [u32; 16],
+    passing: &'a [u16; 128],
+    travel: &'a [u16; 128],
+    follow: &'a [u16; 24],
+    cross: &'a [u16; 24],
+    ranks: &[u8; 16],
+    visit: &[u8; 384],
+    ahead: &mut [u16; 128],
+    behind: &mut [u16; 128],
+    undecided: &mut [u16; 128],
+    enter: &mut [u32; 128],
+    order: &mut [u8; 144],
+    first: Run,
+) -> bool
+    requires { ⌜ OnTrial (now steps) (now zone) (now lane) (now arrival) (now passing) (now travel) (now follow) (now cross) (now ranks) (now visit) (now ahead) (now behind) (now undecided) (now enter) (now order) first ⌝ }
+    ensures { λ r. ⌜ AllTried (now (steps .entry)) (now (zone .entry)) (now (lane .entry)) (now (arrival .entry)) (now (passing .entry)) (now (travel .entry)) (now (follow .entry)) (now (cross .entry)) (now (ranks .entry)) (now (visit .entry)) (now (ahead .entry)) (now (behind .entry)) (now (undecided .entry)) (now (ahead .exit)) (now (behind .exit)) (now (undecided .exit)) r ⌝ }
+{
+    let mut run = first;
+    while run.out {
+        let choice = choose(
+            steps,
+            zone,
+            passing,
+            cross,
+            ranks,
+            visit,
+            behind,
+            undecided,
+            enter,
+            order,
+            run,
+        );
+        if !choice.found {
+            return true;
+        }
+        run = decide_either(
+            steps,
+            zone,
+            lane,
+            arrival,
+            passing,
+            travel,
+            follow,
+            cross,
+            visit,
+            ahead,
+            behind,
+            undecided,
+            enter,
+            order,
+            choice.step,
+            choice.first,
+        );
+    }
+    false
 }

@@ -18,7 +18,7 @@ use Rattle.removal.specs.While.{more, stop}
 use Rattle.removal.specs.Removal.{decide, turn, trial}
 use Rattle.orders_present.specs.Holds.{Holds}
 use Rattle.costs.specs.declared.Choice.{Choice}
-use Rattle.trials.specs.Trying.{Told}
+use Rattle.trials.specs.Trying.{Told, Solved}
 use Rattle.trials.specs.declared.Run.{Run}
 
 -- the run over the orders that `ahead` holds: its entering times and moves, and whether all carts come out
@@ -122,3 +122,9 @@ module _ (steps zone lane arrival passing travel follow cross ranks visit ahead 
   pub record AllTried (ahead′ behind′ undecided′ : List ℕ) (found : Bool) : Type 0 where
     pub ends : (pairs : List ℕ) → OfAll steps zone lane arrival passing travel follow cross ranks pairs visit ahead behind undecided
         (λ U low high decided. Ends U low high decided ahead′ behind′ undecided′ found)
+
+-- the group is opened and its pairs are tried, where the ranks below it are solved
+module _ (steps zone lane arrival passing travel follow cross ranks pairs visit : List ℕ) (low high : ℕ) (ahead behind undecided : List ℕ) where
+  pub record OpenedTried (ahead′ behind′ undecided′ : List ℕ) (found : Bool) : Type 0 where
+    pub ends : (U : Unplanned) → Told U steps zone lane arrival passing travel follow cross ranks pairs visit
+        → (decided : List Order) → Solved U low decided ahead behind undecided → Ends U low high decided ahead′ behind′ undecided′ found

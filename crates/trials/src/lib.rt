@@ -2,13 +2,15 @@
 use costs::Choice;
 use costs::largest_cost;
 use finish::finish_of;
+use groups::open_group;
 use orders_present::decide;
 use orders_present::turn_round;
 use ring::lowest_stuck;
 use running::settle;
 use spare::spare_times;
 ghost use Rattle.crossing.specs.Tables.{crossingOf, givenOf};
-ghost use Rattle.trials.specs.Turns.{Runnable, Runs, Choosable, Chosen, Decidable, Decided, OnTrial, AllTried};
+ghost use Rattle.trials.specs.Trying.{Triable, Tries};
+ghost use Rattle.trials.specs.Turns.{Runnable, Runs, Choosable, Chosen, Decidable, Decided, OnTrial, AllTried, OpenedTried};
 
 // A run over the orders present: whether all carts come out, and how many moves are made.
 pub struct Run {
@@ -204,5 +206,114 @@ fn try_pairs<'a>(
             choice.first,
         );
     }
+    false
+}
+
+// The group of the ranks from `low` on, below `high`, is opened, and its pairs are tried.
+fn try_opened<'a>(
+    steps: &'a [u8; 16],
+    zone: &'a [u8; 128],
+    lane: &'a [u8; 16],
+    arrival: &'a [u32; 16],
+    passing: &'a [u16; 128],
+    travel: &'a [u16; 128],
+    follow: &'a [u16; 24],
+    cross: &'a [u16; 24],
+    ranks: &[u8; 16],
+    pairs: &[u16; 128],
+    visit: &[u8; 384],
+    ahead: &mut [u16; 128],
+    behind: &mut [u16; 128],
+    undecided: &mut [u16; 128],
+    low: usize,
+    high: usize,
+) -> bool
+    requires { ⌜ Triable (now steps) (now zone) (now lane) (now arrival) (now passing) (now travel) (now follow) (now cross) (now ranks) (now pairs) (now visit) low high (now ahead) (now behind) (now undecided) ⌝ }
+    ensures { λ r. ⌜ OpenedTried (now (steps .entry)) (now (zone .entry)) (now (lane .entry)) (now (arrival .entry)) (now (passing .entry)) (now (travel .entry)) (now (follow .entry)) (now (cross .entry)) (now (ranks .entry)) (now (pairs .entry)) (now (visit .entry)) low high (now (ahead .entry)) (now (behind .entry)) (now (undecided .entry)) (now (ahead .exit)) (now (behind .exit)) (now (undecided .exit)) r ⌝ }
+{
+    open_group(ranks, pairs, ahead, behind, undecided, low, high);
+    let mut enter = [0u32; 128];
+    let mut order = [0u8; 144];
+    let run = run_out(
+        steps,
+        zone,
+        lane,
+        arrival,
+        passing,
+        travel,
+        follow,
+        cross,
+        ahead,
+        &mut enter,
+        &mut order,
+    );
+    try_pairs(
+        steps,
+        zone,
+        lane,
+        arrival,
+        passing,
+        travel,
+        follow,
+        cross,
+        ranks,
+        visit,
+        ahead,
+        behind,
+        undecided,
+        &mut enter,
+        &mut order,
+        run,
+    )
+}
+
+// The trial of a group: the tables take its orders, or, where it fails, hold what they held.
+pub fn try_group<'a>(
+    steps: &'a [u8; 16],
+    zone: &'a [u8; 128],
+    lane: &'a [u8; 16],
+    arrival: &'a [u32; 16],
+    passing: &'a [u16; 128],
+    travel: &'a [u16; 128],
+    follow: &'a [u16; 24],
+    cross: &'a [u16; 24],
+    ranks: &[u8; 16],
+    pairs: &[u16; 128],
+    visit: &[u8; 384],
+    ahead: &mut [u16; 128],
+    behind: &mut [u16; 128],
+    undecided: &mut [u16; 128],
+    low: usize,
+    high: usize,
+) -> bool
+    requires { ⌜ Triable (now steps) (now zone) (now lane) (now arrival) (now passing) (now travel) (now follow) (now cross) (now ranks) (now pairs) (now visit) low high (now ahead) (now behind) (now undecided) ⌝ }
+    ensures { λ r. ⌜ Tries (now (steps .entry)) (now (zone .entry)) (now (lane .entry)) (now (arrival .entry)) (now (passing .entry)) (now (travel .entry)) (now (follow .entry)) (now (cross .entry)) (now (ranks .entry)) (now (pairs .entry)) (now (visit .entry)) low high (now (ahead .entry)) (now (behind .entry)) (now (undecided .entry)) (now (ahead .exit)) (now (behind .exit)) (now (undecided .exit)) r ⌝ }
+{
+    let old_ahead = *ahead;
+    let old_behind = *behind;
+    let old_undecided = *undecided;
+    if try_opened(
+        steps,
+        zone,
+        lane,
+        arrival,
+        passing,
+        travel,
+        follow,
+        cross,
+        ranks,
+        pairs,
+        visit,
+        ahead,
+        behind,
+        undecided,
+        low,
+        high,
+    ) {
+        return true;
+    }
+    *ahead = old_ahead;
+    *behind = old_behind;
+    *undecided = old_undecided;
     false
 }

@@ -2,36 +2,12 @@ use groups::start_orders;
 use lists::who_visits;
 use ranks::ranks;
 use sheet::Sheet;
+use trials::try_group;
 use visiting::visit_places;
-ghost use Rattle.trials.specs.Trying.{Triable, Tries};
 ghost use Rattle.sheet.specs.Valid.{Valid};
+ghost use Rattle.trials.specs.Trying.{Triable};
 ghost use Rattle.solving.specs.Solving.{Solves};
 ghost use Rattle.solving.specs.Final.{FinalOrders};
-
-// STUB
-fn try_group<'a>(
-    steps: &'a [u8; 16],
-    zone: &'a [u8; 128],
-    lane: &'a [u8; 16],
-    arrival: &'a [u32; 16],
-    passing: &'a [u16; 128],
-    travel: &'a [u16; 128],
-    follow: &'a [u16; 24],
-    cross: &'a [u16; 24],
-    ranks: &[u8; 16],
-    pairs: &[u16; 128],
-    visit: &[u8; 384],
-    ahead: &mut [u16; 128],
-    behind: &mut [u16; 128],
-    undecided: &mut [u16; 128],
-    low: usize,
-    high: usize,
-) -> bool
-    requires { ⌜ Triable (now steps) (now zone) (now lane) (now arrival) (now passing) (now travel) (now follow) (now cross) (now ranks) (now pairs) (now visit) low high (now ahead) (now behind) (now undecided) ⌝ }
-    ensures { λ r. ⌜ Tries (now (steps .entry)) (now (zone .entry)) (now (lane .entry)) (now (arrival .entry)) (now (passing .entry)) (now (travel .entry)) (now (follow .entry)) (now (cross .entry)) (now (ranks .entry)) (now (pairs .entry)) (now (visit .entry)) low high (now (ahead .entry)) (now (behind .entry)) (now (undecided .entry)) (now (ahead .exit)) (now (behind .exit)) (now (undecided .exit)) r ⌝ }
-{
-    low == high
-}
 
 // The group of the ranks from `low` on, below `high`, is solved: where its trial fails, each half is, lower ranks first.
 // A group of one rank has no pair, so its trial does not fail: of 16 carts at most four levels have pairs.

@@ -8,7 +8,7 @@ use borrow.Fn.PlainCycle.{Measures, is, falls, and}
 use Rattle.solving.proofs.solve.Reads as solve
 use Rattle.solving.proofs.solve.Kinds as solve-kinds
 use Rattle.solving.proofs.+solve.Lts-solve as solve-lts
-use Rattle.solving.proofs.try_group.Reads as try-group-reads
+use Rattle.trials.proofs.try_group.Reads as try-group-reads
 use Rattle.solving.proofs.+solve.{statement}
 use Rattle.solving.proofs.+solve.Tie.{close}
 

@@ -7,9 +7,9 @@ use Rattle.plan.proofs.Visitors.{step-cart, step-valid}
 use Rattle.crossing.specs.Tables.{crossingOf, givenOf}
 use Rattle.crossing.proofs.Sheets.{step-is, sheet-once}
 use Rattle.removal.specs.Plannable.{Plannable}
-use Rattle.planner.specs.Planning.{unplanned}
+use Rattle.orders_present.specs.Unplanned.{sheetUnplanned}
 
-pub sheet-plannable : (sheet : Sheet) → Valid sheet → Plannable (unplanned sheet)
+pub sheet-plannable : (sheet : Sheet) → Valid sheet → Plannable (sheetUnplanned sheet)
 unfolding crossingOf givenOf
 sheet-plannable sheet v = record {
   once = sheet-once sheet v [];

@@ -16,7 +16,7 @@ ghost use Rattle.planner.specs.Planning.{notPlanned, planSheet, roomAfte
 ghost use Rattle.planner.specs.Lists.{listsPlanned};
 
 // The passing lists of a plan, as they are written, and its finish. Zone z's list stands at 16 * z, and count[z] carts are in it; unused entries are 0.
-pub struct ListsPlanned {
+struct ListsPlanned {
     pub count: [u8; 24],
     pub list: [u8; 384],
     pub finish: u32,

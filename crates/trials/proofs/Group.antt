@@ -5,7 +5,6 @@ use mathlib.Core.Logic.{_⊎_, inl, inr}
 use mathlib.Core.Bool.{Bool, true, false, true≢false, not-eq-not}
 use mathlib.Core.Option.{some}
 use mathlib.Core.List.{List}
-use native.Mathlib.Omega.{arith}
 use lib.ListN.{length}
 use Rattle.times.specs.Times.{Given}
 use Rattle.crossing.specs.Tables.{crossingOf, givenOf}
@@ -20,8 +19,8 @@ use Rattle.removal.proofs.Trial.{Tried, trial-starts, trial-tried, tried-solved
 use Rattle.orders_present.specs.Holds.{Holds, Below, InOrBelow}
 use Rattle.orders_present.proofs.Groups.{leaves-group}
 use Rattle.groups.specs.Opening.{Opens}
-use Rattle.trials.specs.Trying.{Told, Solved, TriedAs, Triable, Tries}
-use Rattle.trials.specs.Turns.{Runs, Runnable, Underway, Ends, OnTrial, AllTried, OpenedTried}
+use Rattle.trials.specs.Trying.{Told, Solved, Triable, Tries}
+use Rattle.trials.specs.Turns.{Runs, Runnable, OnTrial, AllTried, OpenedTried}
 use Rattle.trials.specs.declared.Run.{Run}
 use Rattle.trials.proofs.Told.{told-sound, run-says}
 

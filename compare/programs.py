@@ -107,7 +107,9 @@ def check_stored():
     if sheet != read_bytes('crates/sheet_main/stdin'):
         sys.exit('crates/sheet_main/stdin is not examples/S.sheet')
     compare('\n'.join(sheets.shown(sheet)) + '\n', read_text('crates/sheet_main/stdout'), 'crates/sheet_main/stdout')
-    both = read_bytes('crates/judge_main/stdin')
+    both = sheet + read_bytes('examples/A.plan')
+    if both != read_bytes('crates/judge_main/stdin'):
+        sys.exit('crates/judge_main/stdin is not examples/S.sheet and A.plan')
     compare(judging.printed(both), read_text('crates/judge_main/stdout'), 'crates/judge_main/stdout')
     for path in DATA:
         check_comments(path, path.endswith('verdicts.txt'))
@@ -141,7 +143,7 @@ def count_numbers(kind, numbers, blocks):
 def check_inputs(program):
     """The judge program on standard input: cut after every byte, with a plan that is locked, and with more than it reads."""
     sheet = read_bytes('examples/S.sheet')
-    accepted, locked = bytes.fromhex('01000a02020001020001'), bytes.fromhex('01000a02020001020100')
+    accepted, locked = read_bytes('examples/A.plan'), read_bytes('examples/B.plan')
     inputs = [(sheet + accepted)[:size] for size in range(len(sheet + accepted) + 1)]
     inputs += [sheet + locked, sheet + accepted + b'\0', b'\1\0\0' + accepted, b'\1\0\2' + sheet, bytes(2048), bytes(5000)]
     inputs += [sheet[:1] + size.to_bytes(2, 'big') + sheet[3:] + accepted + bytes(2500) for size in [46, 2047, 2048, 2049, 65535]]

@@ -1,5 +1,6 @@
-/* What a controller does with document 01's sheet S and plan A: reads them, keeps the plan, and shows each zone's list.
-   cc -Iinclude examples/controller.c target/staticlib/liboblakosh.a */
+/* What a controller does with document 01's sheet S and plan A: reads them, keeps the plan, shows each zone's list, and lets
+   the carts roll.
+   cc -Iinclude examples/controller.c target/staticlib/liboblakosh.a target/staticlib/libmoving.a */
 #include <stdio.h>
 #include <string.h>
 
@@ -71,6 +72,38 @@ static void keep_plan(size_t room_length)
     printf("other memory: %s\n", same(memory + wrote.length, before + wrote.length, sizeof memory - wrote.length));
 }
 
+/* Asks the routine before the cart rolls, and says what it answers. */
+static void request(oblakosh_record *record, size_t cart)
+{
+    oblakosh_asked asked = oblakosh_move_cart(sheet, sizeof sheet, plan, sizeof plan, record, cart);
+    if (done(asked.outcome)) {
+        printf("cart %zu position %u made %u\n", cart, asked.position, asked.made);
+    } else if (asked.outcome.number == OBLAKOSH_CART_HELD) {
+        printf("cart %zu held, ahead %u\n", cart, asked.ahead);
+    }
+}
+
+static int may_move(oblakosh_record record, size_t cart)
+{
+    return oblakosh_ask(sheet, sizeof sheet, plan, sizeof plan, record, cart).outcome.number == OBLAKOSH_DONE;
+}
+
+/* Drivers may start in any order: here the cart with the highest number that may move goes next, until none may. */
+static void drive(void)
+{
+    oblakosh_record record = {0};
+    request(&record, 1);
+    size_t cart = OBLAKOSH_CARTS;
+    while (cart-- > 0) {
+        if (may_move(record, cart)) {
+            request(&record, cart);
+            cart = OBLAKOSH_CARTS;
+        }
+    }
+    request(&record, 0);
+    request(&record, 2);
+}
+
 int main(void)
 {
     show_ahead();
@@ -79,5 +112,6 @@ int main(void)
     show_list(2);
     keep_plan(OBLAKOSH_PLAN);
     keep_plan(sizeof plan - 1);
+    drive();
     return 0;
 }

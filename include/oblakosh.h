@@ -1,18 +1,20 @@
 /* Oblakosh: who goes through the crossing first. The public operations, for C and for whatever calls C, on x86-64 Linux.
 
-   Two libraries, made by `rt staticlib`; link one of them:
-     liblinked_judge.a  oblakosh_read_sheet, oblakosh_read_plan, oblakosh_judge: for a simulator
-     liboblakosh.a      every function below: for a controller
-   Of the C library they need memcpy and memset.
+   Libraries, made by `rt staticlib`, each with the functions of one crate:
+     liblinked_judge.a  oblakosh_read_sheet, oblakosh_read_plan, oblakosh_judge
+     liboblakosh.a      these and every other function below, but oblakosh_move_cart
+     libmoving.a        oblakosh_move_cart
+   A simulator links liblinked_judge.a alone, a controller liboblakosh.a and libmoving.a, in either order: no name stands in
+   both. Of the C library they need memcpy and memset.
 
    What is proved. Every function takes every byte string and number, ends, and answers what document 01 says: done, or
-   the first check that fails. On refusal every other part of the answer is 0, but for the ring that comes with 22, and
-   lent memory is unchanged.
+   the first check that fails. On refusal every other part of the answer is 0, but for the ring that comes with 22 and the
+   number of carts ahead that comes with 26, and lent memory is unchanged.
 
    What is assumed. Nothing here tests a pointer; the caller sees to it that, until the function returns,
      - a pointer and the length after it are memory of that many bytes (for words, of that many 32-bit words, at a
-       multiple of 4) that the caller may read, and write where the pointer is not const. It is not NULL, also where
-       the length is 0;
+       multiple of 4) that the caller may read, and write where the pointer is not const; a pointer to a record is one
+       record, at a multiple of 4. None is NULL, also where the length is 0;
      - memory lent to be written overlaps nothing else that is lent in that call, and no other thread touches it.
 
    Who owns what. All memory is the caller's. It is lent for the call: the library keeps no pointer, allocates nothing and
@@ -162,6 +164,29 @@ typedef struct {
 oblakosh_list_found oblakosh_find_list(const uint8_t *sheet, size_t sheet_length, const uint8_t *plan, size_t plan_length,
                                        size_t zone);
 
+/* ---- moving carts */
+
+typedef struct {
+    uint8_t position[OBLAKOSH_CARTS]; /* 0 on the lane, k in the k-th zone of its route, steps + 1 out; absent carts 0 */
+    uint32_t made;                    /* the number of moves made */
+} oblakosh_record;                    /* all zero is the start */
+
+typedef struct {
+    oblakosh_outcome outcome;
+    uint8_t position;             /* the cart's new position */
+    uint32_t made;                /* the new number of moves made */
+    uint32_t ahead;               /* with 26 only: how many carts ahead have not left the zone that the cart wants */
+} oblakosh_asked;
+
+/* Whether the cart may make its next move now, and what the record would then hold. Refuses with 1 to 26. */
+oblakosh_asked oblakosh_ask(const uint8_t *sheet, size_t sheet_length, const uint8_t *plan, size_t plan_length,
+                            oblakosh_record record, size_t cart);
+
+/* To be called before a cart rolls, which it may if this is done. The same answer, and if done the cart's position and the
+   number of moves are stored in the record; the other positions are untouched. */
+oblakosh_asked oblakosh_move_cart(const uint8_t *sheet, size_t sheet_length, const uint8_t *plan, size_t plan_length,
+                                  oblakosh_record *record, size_t cart);
+
 /* ---- the layout that the libraries have */
 
 #if defined(__cplusplus) && __cplusplus >= 201103L
@@ -176,6 +201,8 @@ OBLAKOSH_HAS(oblakosh_plan_read, 1528);
 OBLAKOSH_HAS(oblakosh_judged, 64);
 OBLAKOSH_HAS(oblakosh_plan_written, 24);
 OBLAKOSH_HAS(oblakosh_list_found, 32);
+OBLAKOSH_HAS(oblakosh_record, 20);
+OBLAKOSH_HAS(oblakosh_asked, 32);
 #undef OBLAKOSH_HAS
 #endif
 

@@ -1,4 +1,4 @@
-//! Links the static library that `rt staticlib` made: in OBLAKOSH_LIB_DIR, else in the repository's target/staticlib.
+//! Links the static libraries that `rt staticlib` made: in OBLAKOSH_LIB_DIR, else in the repository's target/staticlib.
 use std::env;
 use std::path::PathBuf;
 
@@ -9,15 +9,15 @@ fn main() {
             PathBuf::from(env::var_os("CARGO_MANIFEST_DIR").unwrap()).join("../../target/staticlib")
         }
     };
-    let name = match env::var_os("CARGO_FEATURE_CONTROLLER") {
-        Some(_) => "oblakosh",
-        None => "linked_judge",
+    let names: &[&str] = match env::var_os("CARGO_FEATURE_CONTROLLER") {
+        Some(_) => &["oblakosh", "moving"],
+        None => &["linked_judge"],
     };
     println!("cargo:rerun-if-env-changed=OBLAKOSH_LIB_DIR");
-    println!(
-        "cargo:rerun-if-changed={}",
-        dir.join(format!("lib{}.a", name)).display()
-    );
     println!("cargo:rustc-link-search=native={}", dir.display());
-    println!("cargo:rustc-link-lib=static={}", name);
+    for name in names {
+        let library = dir.join(format!("lib{}.a", name));
+        println!("cargo:rerun-if-changed={}", library.display());
+        println!("cargo:rustc-link-lib=static={}", name);
+    }
 }

@@ -8,36 +8,32 @@ use mathlib.Core.List.{List}
 use native.Mathlib.Decide.{decLt}
 use native.Mathlib.Omega.{arith}
 use lib.ListN.{length, getD}
-use Rattle.words.proofs.Tests.{and-both}
 use Rattle.words.proofs.Tables.{row-at}
 use Rattle.sets.specs.Member.{has}
 use Rattle.routes.specs.Lists.{Named}
-use Rattle.routes.proofs.Places.{named-says}
 use Rattle.entering.specs.Times.{timesOf}
-use Rattle.removal.specs.Pairs.{Unplanned, Order, visits, isPair}
+use Rattle.removal.specs.Pairs.{Unplanned, Order}
 use Rattle.removal.specs.Present.{isUndecided}
 use Rattle.removal.specs.Cost.{largestCost}
 use Rattle.removal.specs.Removal.{candidates}
 use Rattle.costs.specs.Largest.{Undecided}
-use Rattle.costs.specs.Tables.{Tables, orderAt, CandidateBelow, route, Tabled, Costable, HoldsUndecided}
+use Rattle.costs.specs.Tables.{Tables, orderAt, CandidateBelow, route, SameAtSteps, Tabled, Costable, HoldsUndecided}
 use Rattle.costs.specs.Choices.{chosen, Chosen, ChosenBelow}
 use Rattle.costs.specs.declared.Choice.{Choice}
 use Rattle.costs.proofs.Strict.{clash}
 use Rattle.costs.proofs.Taken.{same-order}
 use Rattle.costs.proofs.Largest.{largest-none, largest-told}
 use Rattle.costs.proofs.Candidates.{candidates-are}
+use Rattle.costs.proofs.Pairs.{pair-says, undecided-pair}
+use Rattle.costs.proofs.SameTimes.{largest-same}
 use Rattle.costs.proofs.Told.{told-carts}
 use Rattle.costs.proofs.Choosing.{chosen-as}
 
 module _ (U : Unplanned) (low high : ℕ) (decided : List Order) where
-  undecided-pair : (z d c : ℕ) → isUndecided U low high decided z d c ≡ true → isPair U z d c ≡ true
-  unfolding isUndecided
-  undecided-pair z d c is = and-both (isPair U z d c) _ (and-both _ _ is .0) .0
-
-  undecided-second : (z d c : ℕ) → isUndecided U low high decided z d c ≡ true → Named (route U c) z
-  unfolding isPair
-  undecided-second z d c is =
-      named-says (route U c) z .0 (and-both (visits U d z) (visits U c z) (and-both _ _ (undecided-pair z d c is) .0) .1)
+  visited : (o : Order) → Undecided U low high decided o → Named (route U (o .first)) (o .zone) × Named (route U (o .second)) (o .zone)
+  visited o u =
+      let pair = pair-says U (o .zone) (o .first) (o .second) (undecided-pair U (o .zone) (o .first) (o .second) low high decided (u .undecided)) in
+      (pair .0, pair .1)
 
   module _ (T : Tables) (K : Tabled U (T .zone) (T .cross) (T .passing) (T .rank) (T .visit)) (H : HoldsUndecided U low high decided (T .undecided)) where
     module _ (x a : ℕ) (below : x < 128) (is : has (getD (T .undecided) x 0) a ≡ true) where
@@ -61,7 +57,7 @@ module _ (U : Unplanned) (low high : ℕ) (decided : List Order) where
     group-costable = record {
       tabled = K;
       is-step = is-step;
-      is-pair = λ x a below is. undecided-pair _ a (x / 8) (is-undecided x a below is);
+      is-pair = λ x a below is. undecided-pair U _ a (x / 8) low high decided (is-undecided x a below is);
     }
 
     on : (o : Order) → CandidateBelow T 128 o → Undecided U low high decided o
@@ -74,7 +70,7 @@ module _ (U : Unplanned) (low high : ℕ) (decided : List Order) where
 
     back : (o : Order) → Undecided U low high decided o → CandidateBelow T 128 o
     back o u =
-        let (j, l, there) = undecided-second (o .zone) (o .first) (o .second) (u .undecided) in
+        let (j, l, there) = visited o u .1 in
         let few : j < 8 = omega (arith, K .steps-most (o .second)) in
         record {
           step = 8 * o .second + j;
@@ -90,13 +86,18 @@ module _ (U : Unplanned) (low high : ℕ) (decided : List Order) where
       among : Chosen T (Undecided U low high decided) r
       among = chosen-as T group-candidates r R
 
-      pub choice-none : r .found ≡ false → largestCost U (timesOf (T .enter)) (timesOf (T .spare)) (candidates U low high decided) ≡ none
-      choice-none f = largest-none U _ _ (candidates U low high decided) .1 (λ o m. among .none-found f o (candidates-are U low high decided o .0 m))
-
-      pub choice-some : r .found ≡ true → largestCost U (timesOf (T .enter)) (timesOf (T .spare)) (candidates U low high decided) ≡ some (chosen T r)
-      choice-some f =
-          largest-told U _ _ (candidates U low high decided) (candidates-are U low high decided) (λ o u. u .of-carts) (chosen T r)
-          (among .largest f U group-costable)
-
       pub choice-undecided : r .found ≡ true → Undecided U low high decided (orderAt T (r .step) (r .first))
       choice-undecided f = among .largest f U group-costable .candidate
+
+      -- by any times that the tables hold
+      module _ (t spare : ℕ → ℕ → ℕ) (same : SameAtSteps U t (timesOf (T .enter))) (same-spare : SameAtSteps U spare (timesOf (T .spare))) where
+        by-tables : largestCost U t spare (candidates U low high decided) ≡ largestCost U (timesOf (T .enter)) (timesOf (T .spare)) (candidates U low high decided)
+        by-tables = largest-same U _ _ _ _ same same-spare (candidates U low high decided) (λ o m. visited o (candidates-are U low high decided o .0 m))
+
+        pub choice-none : r .found ≡ false → largestCost U t spare (candidates U low high decided) ≡ none
+        choice-none f = by-tables ∙ largest-none U _ _ (candidates U low high decided) .1 (λ o m. among .none-found f o (candidates-are U low high decided o .0 m))
+
+        pub choice-some : r .found ≡ true → largestCost U t spare (candidates U low high decided) ≡ some (chosen T r)
+        choice-some f =
+            by-tables
+            ∙ largest-told U _ _ (candidates U low high decided) (candidates-are U low high decided) (λ o u. u .of-carts) (chosen T r) (among .largest f U group-costable)

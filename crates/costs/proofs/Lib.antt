@@ -7,6 +7,8 @@ pub mod Candidates
 pub mod Differences
 pub mod Ties
 pub mod Compared
+pub mod Pairs
+pub mod SameTimes
 pub mod Told
 pub mod Choosing
 pub mod Scanning

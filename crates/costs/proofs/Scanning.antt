@@ -20,7 +20,8 @@ use Rattle.costs.specs.Choices.{isTakenAt, Chosen}
 use Rattle.costs.specs.declared.Choice.{Choice}
 use Rattle.costs.proofs.Strict.{clash, not-true-false}
 use Rattle.costs.proofs.Compared.{bits}
-use Rattle.costs.proofs.Choosing.{chosen-as, clearAt, latestAt, chosen-over, chosen-stays}
+use Rattle.costs.proofs.Told.{clearAt, latestAt}
+use Rattle.costs.proofs.Choosing.{chosen-as, chosen-over, chosen-stays}
 
 module _ (T : Tables) where
   pub chosen-none : Chosen T (CandidateBelow T 0) (record { found = false; cost = negsuc 37740000; step = 0; first = 0 })

@@ -1,26 +1,36 @@
 -- What the tables hold for a candidate is what U's costs and ranks are made of.
 use Prim.Native.Nat.{ℕ, _+_, _*_, _/_, _%_, _<_}
 use mathlib.Core.Path.{_≡_, sym, ap, _∙_}
-use mathlib.Core.Bool.{true, false, not, _&&_}
+use mathlib.Core.Bool.{true, false}
 use native.Mathlib.Omega.{arith}
 use lib.ListN.{length, getD}
 use lib.IntN.{ℤ, pos, negℤ, _+ℤ_, _-ℤ_, +ℤ-assoc, negℤ-+ℤ}
-use borrow.Author.Tests.{not-true}
-use Rattle.words.proofs.Tests.{and-both}
 use Rattle.sets.specs.Member.{has}
 use Rattle.routes.specs.Lists.{Named, placeOf}
-use Rattle.routes.proofs.Places.{named-says, place-below, place-names, place-is}
+use Rattle.routes.proofs.Places.{place-below, place-names, place-is}
 use Rattle.entering.specs.Times.{timesOf}
-use Rattle.removal.specs.Pairs.{Unplanned, rank, visits, sameLane, isPair}
+use Rattle.removal.specs.Pairs.{Unplanned, rank, sameLane}
 use Rattle.removal.specs.Cost.{isTakenOver, cost}
 use Rattle.costs.specs.Largest.{OfCarts}
 use Rattle.costs.specs.Tables.{Tables, winsTie, orderAt, route, Tabled, Costable}
 use Rattle.costs.specs.Choices.{isTakenAt, chosen}
 use Rattle.costs.specs.declared.Choice.{Choice}
+use Rattle.costs.proofs.Pairs.{pair-says}
 
 -- to take two numbers away is to take their sum away
 less-both : (m b s : ℕ) → pos m -ℤ pos b -ℤ pos s ≡ pos m -ℤ pos (b + s)
 less-both m b s = +ℤ-assoc (pos m) (negℤ (pos b)) (negℤ (pos s)) ∙ ap (λ z. pos m +ℤ z) (sym (negℤ-+ℤ (pos b) (pos s)))
+
+module _ (T : Tables) where
+  -- "A's entering + passing + gap" of cart a before the cart of the step at x, and B's entering and spare time
+  abbrev pub clearAt : ℕ → ℕ → ℕ
+  clearAt x a =
+      let z = getD (T .zone) x 0 in
+      let p = getD (T .visit) (16 * z + a) 0 in
+      getD (T .enter) p 0 + getD (T .passing) p 0 + getD (T .cross) z 0
+
+  abbrev pub latestAt : ℕ → ℕ
+  latestAt x = getD (T .enter) x 0 + getD (T .spare) x 0
 
 module _ (U : Unplanned) (T : Tables) (K : Costable U T) (x a : ℕ) (below : x < 128) (is : has (getD (T .undecided) x 0) a ≡ true) where
   abbrev b : ℕ
@@ -35,28 +45,17 @@ module _ (U : Unplanned) (T : Tables) (K : Costable U T) (x a : ℕ) (below : x 
   abbrev i : ℕ
   i = placeOf (route U a) z
 
-  -- where cart a's step in the zone stands
-  abbrev p : ℕ
-  p = getD (T .visit) (16 * z + a) 0
-
   place : 8 * b + j ≡ x
   place = omega arith
 
-  pair : (visits U a z ≡ true) × (visits U b z ≡ true) × (sameLane U a b ≡ false)
-  unfolding isPair
-  pair =
-      let (visit, other) = and-both (visits U a z && visits U b z) (not (sameLane U a b)) (K .is-pair x a below is) in
-      let (first, second) = and-both (visits U a z) (visits U b z) visit in
-      (first, second, not-true (sameLane U a b) other)
-
-  named : Named (route U a) z
-  named = named-says (route U a) z .0 (pair .0)
+  pair : Named (route U a) z × Named (route U b) z × (sameLane U a b ≡ false)
+  pair = pair-says U z a b (K .is-pair x a below is)
 
   first-below : i < length (route U a)
-  first-below = place-below (route U a) z named
+  first-below = place-below (route U a) z (pair .0)
 
-  first-at : p ≡ 8 * a + i
-  first-at = rw (place-names (route U a) z named) at (K .tabled .visit-is a i first-below)
+  first-at : getD (T .visit) (16 * z + a) 0 ≡ 8 * a + i
+  first-at = rw (place-names (route U a) z (pair .0)) at (K .tabled .visit-is a i first-below)
 
   second-below : j < length (route U b)
   second-below = K .is-step x a below is
@@ -73,13 +72,15 @@ module _ (U : Unplanned) (T : Tables) (K : Costable U T) (x a : ℕ) (below : x 
   pub told-carts : OfCarts U (orderAt T x a)
   told-carts = (K .tabled .present a i first-below, K .tabled .present b j second-below)
 
-  pub told-cost : cost U (timesOf (T .enter)) (timesOf (T .spare)) (orderAt T x a)
-      ≡ pos (getD (T .enter) p 0 + getD (T .passing) p 0 + getD (T .cross) z 0) -ℤ pos (getD (T .enter) x 0 + getD (T .spare) x 0)
+  pub told-cost : cost U (timesOf (T .enter)) (timesOf (T .spare)) (orderAt T x a) ≡ pos (clearAt T x a) -ℤ pos (latestAt T x)
   unfolding cost
-  told-cost = rw (pair .2, second-at, place, first-at, K .tabled .passing-is a i first-below, K .tabled .cross-is z zone-below) (less-both _ (getD (T .enter) x 0) (getD (T .spare) x 0))
+  told-cost =
+      rw (pair .2, second-at, place, first-at, K .tabled .passing-is a i first-below, K .tabled .cross-is z zone-below)
+      (less-both _ (getD (T .enter) x 0) (getD (T .spare) x 0))
 
 -- whether one candidate is taken over another
-pub told-taken : (U : Unplanned) (T : Tables) → Tabled U (T .zone) (T .cross) (T .passing) (T .rank) (T .visit) → (x a : ℕ) (v : ℤ) (r : Choice) → OfCarts U (orderAt T x a) → OfCarts U (orderAt T (r .step) (r .first))
+pub told-taken : (U : Unplanned) (T : Tables) → Tabled U (T .zone) (T .cross) (T .passing) (T .rank) (T .visit) → (x a : ℕ) (v : ℤ) (r : Choice)
+    → OfCarts U (orderAt T x a) → OfCarts U (orderAt T (r .step) (r .first))
     → isTakenAt (T .zone) (T .rank) x a v r ≡ isTakenOver U (record { order = orderAt T x a; cost = v }) (chosen T r)
 unfolding winsTie isTakenOver
 told-taken U T K x a v r (f, s) (g, t) = rw (K .rank-is a f, K .rank-is (x / 8) s, K .rank-is (r .first) g, K .rank-is (r .step / 8) t)

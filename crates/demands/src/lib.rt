@@ -1,12 +1,14 @@
 // Each public operation once more, promised in the order's words: what is proved here is proved of the operation itself.
+use asking::Asked;
 use judge::Judged;
 use plan::PlanRead;
 use plan_writer::PlanWritten;
+use record::Record;
 use sheet::SheetRead;
 use zone_list::ListFound;
 ghost use mathlib.Core.Path.{_≡_};
 ghost use lib.ListN.{length};
-ghost use Rattle.demands.specs.DemandOne.{ReadingASheet, ReadingAPlan, WritingAgain, FindingAList, JudgingAPlan};
+ghost use Rattle.demands.specs.DemandOne.{ReadingASheet, ReadingAPlan, WritingAgain, FindingAList, JudgingAPlan, AskingToMove};
 ghost use Rattle.demands.specs.DemandTwo.{SameBytes, JudgedRightly};
 ghost use Rattle.demands.specs.DemandThree.{RingShown};
 
@@ -41,4 +43,11 @@ pub fn judging_a_plan(s: &[u8], p: &[u8], words: &mut [u32]) -> Judged
     ensures demand_three { λ r. ⌜ (r .outcome .number ≡ 22 → RingShown (now (s .entry)) (now (p .entry)) (r .ring)) ⌝ }
 {
     judge::judge(s, p, words)
+}
+
+// The routine `moving::oblakosh_move_cart` lends its record on; its own contract is what `moving-a-cart` and `drivers-start` speak of.
+pub fn asking_to_move(s: &[u8], p: &[u8], lent: Record, cart: usize) -> Asked
+    ensures demand_one { λ r. ⌜ AskingToMove (now (s .entry)) (now (p .entry)) lent cart r ⌝ }
+{
+    asking::ask(s, p, lent, cart)
 }

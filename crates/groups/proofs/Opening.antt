@@ -1,32 +1,36 @@
 -- A table joined place by place; three tables joined so are those of the opened group.
 use Prim.Native.Nat.{ℕ, _+_, _*_, _/_, _≤_, _<_}
 use mathlib.Core.Path.{_≡_, refl, sym, ap, ap₂, _∙_}
-use mathlib.Core.Bool.{Bool, true, false, not, _&&_, _||_, and-comm, and-false, not-eq-not, Bool·not-not}
-use mathlib.Core.List.{List, []}
+use mathlib.Core.Bool.{Bool, true, false, not, _&&_, _||_, and-false, Bool·not-not}
+use mathlib.Core.List.{List}
 use native.Mathlib.Decide.{decLt, ℕ-discrete}
 use native.Mathlib.Omega.{arith}
 use lib.ListN.{length, getD, set, length-set}
 use lib.Seq.{getD-set-same, getD-set-other}
 use lib.Dec.{leb, ltb}
 use Rattle.words.proofs.Tables.{row-at}
-use Rattle.words.proofs.Tests.{and-both}
 use Rattle.sets.specs.Member.{has, Less}
 use Rattle.sets.specs.Counting.{setBelow}
 use Rattle.sets.proofs.Laws.{has-none, has-same}
-use Rattle.routes.specs.Crossing.{steps, zone}
-use Rattle.routes.proofs.Places.{named-says}
-use Rattle.removal.specs.Pairs.{Unplanned, Order, rank, visits, sameLane, isPair}
-use Rattle.removal.specs.Present.{inGroup, goesBefore, isUndecided}
+use Rattle.routes.specs.Crossing.{zone}
+use Rattle.removal.specs.Pairs.{Unplanned, rank, isPair}
+use Rattle.removal.specs.Present.{inGroup}
+use Rattle.removal.proofs.Pairs.{pair-says}
 use Rattle.orders_present.specs.Unplanned.{unordered, Plannable}
-use Rattle.orders_present.specs.Holds.{StepHolds, Holds, Below}
 use Rattle.orders_present.proofs.Ranks.{leb-not}
 use Rattle.orders_present.proofs.Added.{pair-turned}
 use Rattle.orders_present.proofs.Groups.{opens-before, opens-undecided, none-undecided}
-use Rattle.groups.specs.Pairs.{HasRanks, HasPairs}
-use Rattle.groups.specs.Opening.{Joined, JoinedTo, Opens}
+use Rattle.groups.specs.Pairs.{HasRanks}
+use Rattle.groups.specs.Opening.{Joined, Opens}
 use Rattle.groups.proofs.Sets.{set-has}
 
 -- ---- place by place
+
+-- the table `now` is `old`, where at the places below x the steps of a set of carts are joined by their pairs among another set
+pub record JoinedTo (carts among : ℕ) (pairs : List ℕ) (x : ℕ) (old now : List ℕ) : Type 0 where
+  pub sized : length now ≡ length old
+  pub passed : (k : ℕ) → k < x → k < length old → Joined (getD old k 0) (getD pairs k 0) among (has carts (k / 8)) (getD now k 0)
+  pub to-come : (k : ℕ) → x ≤ k → getD now k 0 ≡ getD old k 0
 
 module _ (carts among : ℕ) (pairs old : List ℕ) where
   pub joined-none : JoinedTo carts among pairs 0 old old
@@ -62,11 +66,7 @@ joined-unused carts among pairs old now is long k none no-more =
 module _ (U : Unplanned) (plannable : Plannable U) where
   -- who is in a pair is a cart
   pair-cart : (z d c : ℕ) → isPair U z d c ≡ true → d < U .carts
-  unfolding isPair
-  pair-cart z d c e =
-      let (both, _) = and-both (visits U d z && visits U c z) (not (sameLane U d c)) e in
-      let (j, h, _) = named-says (getD (U .routes) d []) z .0 (and-both (visits U d z) (visits U c z) both .0) in
-      plannable .step-cart d j h
+  pair-cart z d c e = let (((j, h, _), _), _) = pair-says U z d c .0 e in plannable .step-cart d j h
 
   -- the carts of a step's pairs that are in a set of carts, as the set's test tells
   among-pairs : (z c set sharing : ℕ) (test : ℕ → Bool) → ((d : ℕ) → d < U .carts → has set d ≡ test d) → ((d : ℕ) → has sharing d ≡ isPair U z d c)

@@ -3,7 +3,7 @@ use Prim.Native.Nat.{ℕ, zero, suc, _+_, _-_, _*_, _/_, _%_, _^_, _≤_, _<_}
 use mathlib.Core.Path.{_≡_, refl, sym, ap, ap₂, _∙_, subst}
 use mathlib.Core.Bool.{Bool, true, false, not, _&&_, and-comm, and-true}
 use mathlib.Core.List.{List, []}
-use native.Mathlib.Nat.{one-mul, mod-eq-of-lt, two-pow-succ, div-add-mod, mod-lt}
+use native.Mathlib.Nat.{one-mul, mod-eq-of-lt, two-pow-succ, div-add-mod}
 use native.Mathlib.Decide.{decLt, ℕ-discrete}
 use native.Mathlib.Omega.{arith}
 use lib.ListN.{length, getD, set, replicate, length-set, length-replicate, List·getD-eq-default}
@@ -11,8 +11,7 @@ use lib.Seq.{getD-set-same, getD-set-other}
 use lib.Pow.{pow-lt}
 use lib.Dec.{leb, ltb, eqb}
 use borrow.Author.Tests.{lt-ltb, le-ltb, le-leb, lt-leb, eq-eqb, ne-eqb}
-use Rattle.words.specs.Lists.{pick, entries}
-use Rattle.words.proofs.Entries.{at-entry, zeros-are, same-entries, put-entry}
+use Rattle.words.proofs.Entries.{at-entry}
 use Rattle.words.proofs.Tables.{row-at, column-at}
 use Rattle.sets.specs.Member.{has, Without, Less}
 use Rattle.sets.specs.Counting.{setBelow}
@@ -56,20 +55,8 @@ lower-has k c l d =
 -- ---- the carts of a lane
 
 module _ (lane : List ℕ) where
-  abbrev mate : ℕ → ℕ
+  abbrev pub mate : ℕ → ℕ
   mate c = setBelow 16 λ d. eqb (getD lane d 0) (getD lane c 0)
-
-  -- the table when the carts below c are done
-  unfoldable pub matesTo : ℕ → List ℕ
-  matesTo c = entries 16 0 λ x. pick (ltb x c) (mate x) 0
-
-  pub mates-none : replicate 16 0 ≡ matesTo 0
-  unfolding matesTo
-  mates-none = zeros-are 16 _ λ x. rw (le-ltb x 0 (omega arith))
-
-  pub mates-all : (c : ℕ) → c ≡ 16 → matesTo c ≡ laneMates lane
-  unfolding matesTo laneMates
-  mates-all c e = rw e (same-entries 16 _ _ λ x l. rw (lt-ltb x 16 l))
 
   between : (v l : ℕ) → (leb l v && not (leb (l + 1) v)) ≡ eqb v l
   between v l = go (decLt v l) (ℕ-discrete v l)
@@ -79,27 +66,15 @@ module _ (lane : List ℕ) where
       go (no a) (yes e) = rw (le-leb l v (omega arith), lt-leb (l + 1) v (omega arith), eq-eqb v l e)
       go (no a) (no n) = rw (le-leb l v (omega (arith, a)), le-leb (l + 1) v (omega (arith, a, n)), ne-eqb v l n)
 
-  pub mates-next : (c number from after r : ℕ) (mates : List ℕ) → c < 16 → number ≡ getD lane c 0
+  pub mate-is : (c number from after r : ℕ) → number ≡ getD lane c 0
       → from ≡ setBelow 16 (λ d. leb number (getD lane d 0)) → after ≡ setBelow 16 (λ d. leb (number + 1) (getD lane d 0))
-      → Less from after r → r < 2 ^ 16 → mates ≡ matesTo c → set mates c r ≡ matesTo (c + 1)
-  unfolding matesTo
-  mates-next c number from after r mates l is from-is after-is less fits so-far =
-      rw so-far (put-entry 16 _ _ c r l (rw (lt-ltb c (c + 1) (omega arith)) (sym mine)) λ x other. ap (λ (b : Bool). pick b (mate x) 0) (same x other))
-    where
-      mine : r ≡ mate c
-      mine =
-          set-is 16 r _ fits λ d m.
-          less d
-          ∙ ap₂ (λ (a b : Bool). a && not b) (set-has 16 _ from from-is d m) (set-has 16 _ after after-is d m)
-          ∙ between (getD lane d 0) number
-          ∙ ap (eqb (getD lane d 0)) is
-
-      same : (x : ℕ) → (x ≡ c → ⊥) → ltb x (c + 1) ≡ ltb x c
-      same x other =
-          elim (decLt x c) [
-            | yes m ↦ lt-ltb x (c + 1) (omega arith) ∙ sym (lt-ltb x c m)
-            | no n ↦ le-ltb x (c + 1) (omega (arith, n, other)) ∙ sym (le-ltb x c (omega (arith, n)))
-          ]
+      → Less from after r → r < 2 ^ 16 → r ≡ mate c
+  mate-is c number from after r is from-is after-is less fits =
+      set-is 16 r _ fits λ d m.
+      less d
+      ∙ ap₂ (λ (a b : Bool). a && not b) (set-has 16 _ from from-is d m) (set-has 16 _ after after-is d m)
+      ∙ between (getD lane d 0) number
+      ∙ ap (eqb (getD lane d 0)) is
 
 -- ---- the visitors of a step's zone
 

@@ -1,5 +1,5 @@
 -- The tables at the start, before any group is opened: carts of one lane go by number, and no pair is ordered.
-use Prim.Native.Nat.{ℕ, _/_, _%_, _<_}
+use Prim.Native.Nat.{ℕ, _/_, _%_}
 use mathlib.Core.Path.{_≡_}
 use mathlib.Core.List.{List, []}
 use lib.ListN.{length, getD, replicate}
@@ -7,7 +7,6 @@ use lib.Dec.{ltb, eqb}
 use Rattle.words.specs.Lists.{pick, entries}
 use Rattle.sets.specs.Counting.{setBelow}
 use Rattle.lists.specs.Sets.{Routes, whoVisits}
-use Rattle.removal.specs.Pairs.{Unplanned}
 use Rattle.orders_present.specs.Unplanned.{unplannedOf, Plannable}
 use Rattle.orders_present.specs.Holds.{Holds}
 use Rattle.groups.specs.Pairs.{HasPairs}

@@ -1,15 +1,18 @@
 -- One order of an undecided pair more: it is present, and its pair is decided.
 use Prim.Native.Nat.{ℕ}
-use mathlib.Core.Path.{_≡_, refl, sym, ap, ap₂, _∙_}
+use mathlib.Core.Path.{_≡_, refl, sym, ap, _∙_}
 use mathlib.Core.Bool.{Bool, true, false, false≢true, not, _&&_, _||_, or-true, or-false, or-comm, and-comm, and-true, and-false}
 use mathlib.Core.List.{List, _∷_}
 use native.Mathlib.Decide.{ℕ-discrete}
 use lib.Dec.{eqb}
-use borrow.Author.Tests.{eqb-true, ne-eqb, not-true}
+use borrow.Author.Tests.{eqb-true, ne-eqb}
 use Rattle.words.proofs.Tests.{and-both}
-use Rattle.removal.specs.Pairs.{Unplanned, Order, opposite, isDecided, rank, isPair, visits, sameLane}
+use Rattle.removal.specs.Pairs.{Unplanned, Order, opposite, isDecided, rank, isPair, visits}
 use Rattle.removal.specs.Present.{inGroup, pairOrder, goesBefore, isUndecided}
-use Rattle.orders_present.proofs.Ranks.{pair-within, orderOf, goes-pair, goes-more}
+use Rattle.removal.specs.Solved.{PairIn}
+use Rattle.removal.proofs.Present.{pair-inside, pairOf, before-pair}
+use Rattle.removal.proofs.Candidates.{undecided-says}
+use Rattle.orders_present.proofs.Ranks.{goes-more}
 
 pub eqb-turned : (a b : ℕ) → eqb a b ≡ eqb b a
 eqb-turned a b = go (ℕ-discrete a b)
@@ -58,19 +61,11 @@ module _ (U : Unplanned) (low high : ℕ) (decided : List Order) where
 
   -- and neither goes before the other
   undecided-absent : (z d c : ℕ) → isUndecided U low high decided z d c ≡ true → goesBefore U low high decided z d c ≡ false
-  unfolding isUndecided
   undecided-absent z d c e =
-      let within = inGroup low high (rank U d) && inGroup low high (rank U c) in
-      let either = isDecided decided z d c || isDecided decided z c d in
-      let (candidate, not-either) = and-both (isPair U z d c && within) (not either) e in
-      let (pair, inside) = and-both (isPair U z d c) within candidate in
-      goes-pair U z d c low high decided pair
-      ∙ pair-within low high (rank U d) (rank U c) (isDecided decided z d c) (isDecided decided z c d) inside
-      ∙ neither (isDecided decided z d c) (isDecided decided z c d) (not-true either not-either)
-    where
-      neither : (a b : Bool) → a || b ≡ false → a ≡ false
-      neither true b e = e
-      neither false b e = refl
+      let u = undecided-says U low high decided z d c .0 e in
+      before-pair U low high decided z d c (u .is-in .pair)
+      ∙ pair-inside low high (rank U d) (rank U c) (isDecided decided z d c) (isDecided decided z c d) (u .is-in .ranks)
+      ∙ u .not-this
 
 module _ (U : Unplanned) (low high : ℕ) (decided : List Order) (o : Order) where
   pub undecided-added : (z d c : ℕ) → isUndecided U low high (o ∷ decided) z d c ≡ (isUndecided U low high decided z d c && not (isOrder o z d c || isOrder o z c d))
@@ -80,45 +75,37 @@ module _ (U : Unplanned) (low high : ℕ) (decided : List Order) (o : Order) whe
       (isOrder o z d c) (isDecided decided z d c) (isOrder o z c d) (isDecided decided z c d)
 
   module _ (undecided : isUndecided U low high decided (o .zone) (o .first) (o .second) ≡ true) where
-    abbrev inside : ℕ → ℕ → Bool
-    inside d c = inGroup low high (rank U d) && inGroup low high (rank U c)
+    candidate : PairIn U low high (o .zone) (o .first) (o .second)
+    candidate = undecided-says U low high decided (o .zone) (o .first) (o .second) .0 undecided .is-in
 
-    candidate : (isPair U (o .zone) (o .first) (o .second) ≡ true) × (inside (o .first) (o .second) ≡ true)
-    unfolding isUndecided
-    candidate = and-both (isPair U (o .zone) (o .first) (o .second)) (inside (o .first) (o .second)) (and-both _ _ undecided .0)
-
-    module _ (z d c : ℕ) where
-      order-inside : isOrder o z d c ≡ true → inside d c ≡ true
-      order-inside e = let (_, first, second) = order-is o z d c e in rw (first, second) at (candidate .1)
-
-      order-pair : isOrder o z d c ≡ true → isPair U z d c ≡ true
-      order-pair e = let (zone, first, second) = order-is o z d c e in rw (zone, first, second) at (candidate .0)
+    order-in : (z d c : ℕ) → isOrder o z d c ≡ true → PairIn U low high z d c
+    order-in z d c e = let (zone, first, second) = order-is o z d c e in rw (zone, first, second) at candidate
 
     pub order-absent : (z d c : ℕ) → isOrder o z d c ≡ true → goesBefore U low high decided z d c ≡ false
     order-absent z d c e =
         let (zone, first, second) = order-is o z d c e in
         rw (zone, first, second) at (undecided-absent U low high decided (o .zone) (o .first) (o .second) undecided)
 
-    added-pair : (z d c : ℕ) → orderOf U z d c low high (o ∷ decided) ≡ (orderOf U z d c low high decided || isOrder o z d c)
+    added-pair : (z d c : ℕ) → pairOf U low high (o ∷ decided) z d c ≡ (pairOf U low high decided z d c || isOrder o z d c)
     unfolding isDecided
     added-pair z d c = go (isOrder o z d c) (isOrder o z c d) refl refl
       where
         here : (x y : Bool) → Bool
         here x y = pairOrder low high (rank U d) (rank U c) (x || isDecided decided z d c) (y || isDecided decided z c d)
 
-        go : (x y : Bool) → isOrder o z d c ≡ x → isOrder o z c d ≡ y → here x y ≡ (orderOf U z d c low high decided || x)
-        go true y e f = pair-within low high (rank U d) (rank U c) true (y || isDecided decided z c d) (order-inside z d c e) ∙ sym (or-true (orderOf U z d c low high decided))
+        go : (x y : Bool) → isOrder o z d c ≡ x → isOrder o z c d ≡ y → here x y ≡ (pairOf U low high decided z d c || x)
+        go true y e f = pair-inside low high (rank U d) (rank U c) true (y || isDecided decided z c d) (order-in z d c e .ranks) ∙ sym (or-true (pairOf U low high decided z d c))
         go false true e f =
-            let within = and-comm (inGroup low high (rank U d)) (inGroup low high (rank U c)) ∙ order-inside z c d f in
-            pair-within low high (rank U d) (rank U c) (isDecided decided z d c) true within
-            ∙ sym (pair-within low high (rank U d) (rank U c) (isDecided decided z d c) (isDecided decided z c d) within)
-            ∙ sym (or-false (orderOf U z d c low high decided))
-        go false false e f = sym (or-false (orderOf U z d c low high decided))
+            let (first, second) = order-in z c d f .ranks in
+            pair-inside low high (rank U d) (rank U c) (isDecided decided z d c) true (second, first)
+            ∙ sym (pair-inside low high (rank U d) (rank U c) (isDecided decided z d c) (isDecided decided z c d) (second, first))
+            ∙ sym (or-false (pairOf U low high decided z d c))
+        go false false e f = sym (or-false (pairOf U low high decided z d c))
 
     pub order-added : (z d c : ℕ) → goesBefore U low high (o ∷ decided) z d c ≡ (goesBefore U low high decided z d c || isOrder o z d c)
     order-added z d c =
         goes-more U z d c low high low high (o ∷ decided) decided (isOrder o z d c) (λ _. added-pair z d c)
-        ∙ ap (λ (b : Bool). goesBefore U low high decided z d c || b) (implied (isPair U z d c) (isOrder o z d c) (order-pair z d c))
+        ∙ ap (λ (b : Bool). goesBefore U low high decided z d c || b) (implied (isPair U z d c) (isOrder o z d c) (λ e. order-in z d c e .pair))
       where
         implied : (p x : Bool) → (x ≡ true → p ≡ true) → (p && x) ≡ x
         implied true x h = refl

@@ -1,8 +1,8 @@
 -- An order decided changes one set ahead, one behind and two of undecided pairs; turned round, two ahead and two behind.
 use Prim.Native.Nat.{ℕ, _+_, _*_, _/_, _≤_, _<_}
 use mathlib.Core.Path.{_≡_, refl, sym, ap, ap₂, _∙_}
-use mathlib.Core.Bool.{Bool, true, false, false≢true, not, _&&_, _||_, and-assoc, and-comm, and-true, and-false, or-comm, or-false}
-use mathlib.Core.List.{List, _∷_}
+use mathlib.Core.Bool.{Bool, true, false, not, _&&_, _||_, and-true, and-false, or-comm, or-false}
+use mathlib.Core.List.{List}
 use native.Mathlib.Omega.{arith}
 use lib.ListN.{length, getD, set, length-set}
 use lib.Seq.{getD-set-other}
@@ -13,7 +13,6 @@ use Rattle.routes.specs.Crossing.{steps, zone}
 use Rattle.removal.specs.Pairs.{Unplanned, Order, opposite}
 use Rattle.removal.specs.Present.{goesBefore, isUndecided}
 use Rattle.orders_present.specs.Unplanned.{unordered, Plannable}
-use Rattle.orders_present.specs.Holds.{Holds}
 use Rattle.orders_present.specs.Deciding.{StepAt, Candidate, Decides, TurnsRound}
 use Rattle.orders_present.proofs.Added.{isOrder, and-swap, order-turned, undecided-turned, undecided-added, order-absent, order-added}
 use Rattle.orders_present.proofs.Cells.{cell-with, cell-without}

@@ -1,87 +1,45 @@
 -- The tables stand for the orders present: the carts that settle over them tell whether the moves have a cycle, and the entering times.
-use Prim.Native.Nat.{ℕ, suc, _+_, _*_, _<_}
-use mathlib.Core.Path.{_≡_, refl, sym, ap, _∙_}
-use mathlib.Core.Logic.{_↔_, Iff·rfl}
-use mathlib.Core.Bool.{Bool, true, false, false≢true, _&&_}
-use mathlib.Core.List.{List, [], _∷_}
+use Prim.Native.Nat.{ℕ, _+_, _*_, _<_}
+use mathlib.Core.Path.{_≡_, sym, ap, _∙_, subst}
+use mathlib.Core.Logic.{_↔_}
+use mathlib.Core.Bool.{true}
+use mathlib.Core.List.{List, []}
 use native.Mathlib.Decide.{decLt}
 use native.Mathlib.Omega.{arith}
 use lib.ListN.{length, getD, List·getD-eq-default}
-use lib.Seq.{ext-getD}
 use Rattle.words.proofs.Entries.{length-entries}
-use Rattle.words.proofs.Tests.{eqb-says, and-both}
-use Rattle.moves.specs.System.{System, carts, pos, start, _≼_, InRange, sum}
-use Rattle.moves.specs.Runs.{AllComeOut, end}
-use Rattle.moves.proofs.Positions.{≼-sum}
-use Rattle.moves.proofs.Runs.{start-in-range, reaches-in-range}
-use Rattle.moves.proofs.Ends.{greedy-run, end-reached}
-use Rattle.moves.proofs.Out.{end-out}
-use Rattle.routes.specs.Lists.{Named, isNamed, allBelow}
-use Rattle.routes.specs.Crossing.{Crossing, steps, zone, Visits}
+use Rattle.words.proofs.Tests.{and-both}
+use Rattle.moves.specs.System.{System, carts, start}
+use Rattle.moves.specs.Runs.{AllComeOut}
+use Rattle.routes.specs.Lists.{Named, isNamed}
+use Rattle.routes.specs.Crossing.{Crossing, steps}
 use Rattle.routes.specs.Moves.{system}
-use Rattle.routes.specs.Orders.{NamesOnce, OnlyVisitors}
-use Rattle.routes.proofs.Places.{all-below-says, named-says}
+use Rattle.routes.specs.Orders.{NamesOnce}
+use Rattle.routes.proofs.Places.{named-says}
 use Rattle.times.specs.Times.{Given, entering, EnteringTimes, Ranged}
-use Rattle.times.proofs.Times.{times-worked-out, times-unique}
+use Rattle.times.proofs.Times.{times-unique}
 use Rattle.crossing.specs.Tables.{routeOf, crossingOf, givenOf}
 use Rattle.crossing.specs.Sound.{Sound}
 use Rattle.crossing.proofs.Tables.{step-below, route-is, before-is}
 use Rattle.crossing.proofs.SameOrders.{system-same, entering-orders}
 use Rattle.entering.specs.Times.{timesOf}
 use Rattle.running.specs.Settled.{SettlesAs}
-use Rattle.running.proofs.Verdict.{settled-times}
-use Rattle.removal.specs.Pairs.{Unplanned, Order, visits, sameLane}
+use Rattle.running.proofs.Verdict.{settled-out, settled-times}
+use Rattle.removal.specs.Pairs.{Unplanned, Order, visits}
 use Rattle.removal.specs.Present.{goesBefore, present}
 use Rattle.removal.specs.Running.{movesMade, isOut, enteringTime}
-use Rattle.orders_present.specs.Unplanned.{unplannedOf, Plannable}
+use Rattle.removal.proofs.Pairs.{visits-says}
+use Rattle.removal.proofs.Present.{present-both, present-visitors}
+use Rattle.removal.proofs.Running.{out-says, allMade, entering-made}
+use Rattle.orders_present.specs.Unplanned.{unplannedOf}
 use Rattle.orders_present.specs.Holds.{Holds}
-
-end-in-range : (S : System) → InRange S (end S (start S))
-end-in-range S = reaches-in-range S (start S) (end S (start S)) (start-in-range S) (end-reached S (start S))
 
 -- who goes before another in a zone visits it, and so does the other
 pub goes-visits : (U : Unplanned) (low high : ℕ) (decided : List Order) (z d c : ℕ) → goesBefore U low high decided z d c ≡ true
     → (visits U d z ≡ true) × (visits U c z ≡ true)
-unfolding goesBefore
-goes-visits U low high decided z d c e = and-both (visits U d z) (visits U c z) (guarded (visits U d z && visits U c z) _ e)
-  where
-    guarded : (b t : Bool) → elim b [ false ↦ false | true ↦ t ] ≡ true → b ≡ true
-    guarded true t e = refl
-    guarded false t e = e
-
-module _ (U : Unplanned) (low high : ℕ) (decided : List Order) where
-  abbrev Y : Crossing
-  Y = present U low high decided
-
-  pub present-only : OnlyVisitors Y
-  present-only z d c b = named-says (getD (U .routes) d []) z .0 (goes-visits U low high decided z d c b .0)
-
-  -- whether all carts are out at the end is whether all come out
-  is-out : (isOut Y ≡ true) ↔ (end (system Y) (start (system Y)) ≡ system Y .out)
-  unfolding isOut
-  is-out = (
-    λ e. ext-getD 0 at (S .out) (end-in-range S .sized) (λ c l. each-out .0 e c (omega (arith, end-in-range S .sized))),
-    λ e. each-out .1 (λ c _. ap (λ (t : List ℕ). pos t c) e),
-  )
-    where
-      S : System
-      S = system Y
-
-      at : List ℕ
-      at = end S (start S)
-
-      each-out : (isOut Y ≡ true) ↔ ((c : ℕ) → c < carts S → pos at c ≡ pos (S .out) c)
-      each-out = all-below-says _ (carts S) (λ c. pos at c ≡ pos (S .out) c) (λ c. eqb-says (pos at c) (pos (S .out) c))
-
--- positions within others that sum to the same are the same
-same-sum : (s t : List ℕ) → length s ≡ length t → s ≼ t → sum s ≡ sum t → s ≡ t
-same-sum [] [] e le is = refl
-same-sum [] (y ∷ t) e le is = absurd (omega arith)
-same-sum (x ∷ s) [] e le is = absurd (omega arith)
-same-sum (x ∷ s) (y ∷ t) e le is =
-    let more = ≼-sum s t (omega arith) (λ c. le (suc c)) in
-    let here : x ≡ y = omega (arith, le 0) in
-    rw here (ap (λ (u : List ℕ). y ∷ u) (same-sum s t (omega arith) (λ c. le (suc c)) (omega (arith, le 0))))
+goes-visits U low high decided z d c e =
+    let (v, w) = present-both U low high decided z d c e in
+    (visits-says U d z .1 v, visits-says U c z .1 w)
 
 -- the tables of a sheet, and of the orders present
 module _ (stepTable zoneTable lane arrival passing travel follow cross : List ℕ) (zones carts : ℕ) where
@@ -130,7 +88,7 @@ module _ (stepTable zoneTable lane arrival passing travel follow cross : List �
           let (named, _) = and-both (isNamed (routeOf stepTable zoneTable c) z) _ b in
           let here = named-says (routeOf stepTable zoneTable c) z .0 named in
           let visit : Named (getD (U′ .routes) c []) z = rw (route-is stepTable zoneTable ahead c (cart-below few c z here)) here in
-          present-only U′ low high decided z d c (sym (agree z d c visit) ∙ b);
+          present-visitors U′ low high decided z d c (sym (agree z d c visit) ∙ b);
       zone-below = λ c j h. omega (arith, holds .plannable .zone-below c j h, holds .plannable .zones-most);
       ranged = ranges;
     }
@@ -152,28 +110,16 @@ module _ (stepTable zoneTable lane arrival passing travel follow cross : List �
         }
 
     module _ (at left enter order : List ℕ) (made : ℕ) (settled : SettlesAs X G at left enter order made) where
-      at-end : at ≡ end (system Z) (start (system Z))
-      at-end = settled .at-end ∙ ap (λ (T : System). end T (start T)) present-system
-
-      at-in-range : InRange (system Z) at
-      at-in-range = rw at-end (end-in-range (system Z))
-
       -- whether the moves have no cycle is whether the carts settle out
       pub present-out : (isOut Z ≡ true) ↔ (at ≡ system Z .out)
-      present-out = rw at-end (is-out U′ low high decided)
-
-      -- and that is whether all moves are made
-      pub present-made : (isOut Z ≡ true) ↔ (made ≡ sum (system Z .out))
-      present-made = (
-        λ e. settled .counted ∙ ap sum (present-out .0 e),
-        λ e. present-out .1 (same-sum at (system Z .out) (at-in-range .sized) (at-in-range .within) (sym (settled .counted) ∙ e)),
-      )
+      present-out =
+          let says = subst (λ (T : System). AllComeOut T (start T) ↔ (at ≡ T .out)) present-system (settled-out X G at left enter order made settled) in
+          (λ e. says .0 (out-says Z .0 e), λ e. out-says Z .1 (says .1 e))
 
       -- then the table has the entering times of the orders present
       pub present-times : isOut Z ≡ true → (c s : ℕ) → s < steps Z c → timesOf enter c s ≡ enteringTime Z G (movesMade Z) c s
-      unfolding crossingOf enteringTime movesMade end
+      unfolding crossingOf
       present-times e =
-          let S = system Z in
-          let all : AllComeOut S (start S) = record { run = movesMade Z; is-run = greedy-run S (sum (S .out)) (start S); ends = is-out U′ low high decided .0 e } in
+          let only = present-visitors U′ low high decided in
           let mine : EnteringTimes Z G (timesOf enter) = λ c s h. settled-times X G at left enter order made settled (present-out .0 e) c s h ∙ present-entering (timesOf enter) c s h in
-          times-unique Z G (present-only U′ low high decided) all (timesOf enter) _ mine (times-worked-out Z G (present-only U′ low high decided) all (λ _ _. 0))
+          times-unique Z G only (allMade Z e) (timesOf enter) (enteringTime Z G (movesMade Z)) mine (entering-made Z G only e)

@@ -1,14 +1,13 @@
 -- The tables of the orders present: what they hold while a group of ranks is solved. Step j of cart c stands at 8 * c + j.
 use Prim.Native.Nat.{ℕ, _+_, _*_, _≤_, _<_}
 use mathlib.Core.Path.{_≡_}
-use mathlib.Core.Logic.{_⊎_}
 use mathlib.Core.Bool.{true}
 use mathlib.Core.List.{List}
 use lib.ListN.{length, getD}
 use Rattle.sets.specs.Member.{has}
 use Rattle.routes.specs.Crossing.{steps, zone}
 use Rattle.removal.specs.Pairs.{Unplanned, Order, isDecided, rank}
-use Rattle.removal.specs.Present.{inGroup, goesBefore, isUndecided}
+use Rattle.removal.specs.Present.{goesBefore, isUndecided}
 use Rattle.orders_present.specs.Unplanned.{unordered, Plannable}
 
 module _ (U : Unplanned) where
@@ -33,8 +32,3 @@ module _ (U : Unplanned) where
   -- every order decided so far is of two carts with ranks below `low`
   pub record Below (low : ℕ) (decided : List Order) : Type 0 where
     pub both : (z d c : ℕ) → isDecided decided z d c ≡ true → (rank U d < low) × (rank U c < low)
-
-  -- every order decided so far is of two carts with ranks below the group, or of two in it
-  pub record InOrBelow (low high : ℕ) (decided : List Order) : Type 0 where
-    pub both : (z d c : ℕ) → isDecided decided z d c ≡ true
-        → ((rank U d < low) × (rank U c < low)) ⊎ ((inGroup low high (rank U d) ≡ true) × (inGroup low high (rank U c) ≡ true))

@@ -1,5 +1,6 @@
 -- What is to be planned, as a sheet's tables say it, and what is asked of it.
 use Prim.Native.Nat.{ℕ, _≤_, _<_}
+use mathlib.Core.Path.{_≡_}
 use mathlib.Core.Bool.{false}
 use mathlib.Core.List.{List}
 use Rattle.words.specs.Lists.{entries}
@@ -28,7 +29,7 @@ sheetUnplanned sheet =
 abbrev pub unordered : Unplanned → Crossing
 unordered U = record { routes = U .routes; before = λ z d c. false }
 
--- only carts have steps, no route names a zone twice or one past the zones, and the times are in a sheet's ranges
+-- only carts have steps, no route names a zone twice or one past the zones, on a lane the lower number is in front, and the sizes and times are a sheet's
 pub record Plannable (U : Unplanned) : Type 0 where
   pub zones-most : U .zones ≤ 24
   pub carts-most : U .carts ≤ 16
@@ -36,3 +37,4 @@ pub record Plannable (U : Unplanned) : Type 0 where
   pub once : NamesOnce (unordered U)
   pub zone-below : (c j : ℕ) → j < steps (unordered U) c → zone (unordered U) c j < U .zones
   pub ranged : Ranged (unordered U) (U .given)
+  pub in-lane : (d c : ℕ) → c < U .carts → d < c → U .given .lane d ≡ U .given .lane c → U .given .arrival d ≤ U .given .arrival c

@@ -1,4 +1,5 @@
 pub mod Examples
-pub mod Sheets
 pub mod Orders
 pub mod NotLocked
+pub mod Answers
+pub mod Final

@@ -40,8 +40,8 @@ use Rattle.removal.specs.Removal.{decisions, finalOrders, passingLists, planned
 use Rattle.removal.proofs.Running.{out-says, allMade, entering-made}
 use Rattle.removal.proofs.Final.{final-both, final-out}
 use Rattle.removal.proofs.Planned.{planned-complete, planned-orders, planned-lane}
+use Rattle.solving.proofs.Sheets.{sheet-plannable}
 use Rattle.planner.specs.Planning.{unplanned, plannedOrders, planned}
-use Rattle.planner.proofs.Sheets.{sheet-plannable}
 use Rattle.planner.proofs.Orders.{lists-are, orders-valid}
 
 module _ (sheet : Sheet) (v : Valid sheet) where

@@ -30,8 +30,6 @@ use Rattle.removal.specs.Cost.{largestCost}
 use Rattle.removal.specs.Removal.{candidates, turn}
 use Rattle.removal.proofs.Running.{allMade}
 use Rattle.removal.proofs.Present.{present-both}
-use Rattle.removal.proofs.Candidates.{IsCandidate, candidates-are}
-use Rattle.removal.proofs.Taken.{largest-same}
 use Rattle.removal.proofs.Spare.{SameAtSteps, spare-time-same}
 use Rattle.removal.proofs.Turns.{onTaken}
 use Rattle.orders_present.specs.Unplanned.{unplannedOf}
@@ -156,20 +154,17 @@ module _ (stepTable zoneTable lane arrival passing travel follow cross ranks pai
             ∙ sym (spare-told stepTable zoneTable behind (Z .before) (told .routed) (λ c j d h. holds .at-step c j h .behind-is d) passing enter order (run .made) finishing spare
             spares G (λ c j. refl) finish-same c j h)
 
-        turn-told : turn U low high decided ≡ onTaken U low high decided (largestCost U (timesOf enter) (timesOf spare) (candidates U low high decided))
+        turn-told : turn U low high decided ≡ onTaken U low high decided (largestCost U time (spareTime Z G (movesMade Z) time) (candidates U low high decided))
         unfolding turn
-        turn-told =
-            ap (onTaken U low high decided)
-            (largest-same U time (timesOf enter) (spareTime Z G (movesMade Z) time) (timesOf spare) times-same spares-same (IsCandidate U low high decided)
-            (λ o h. h .undecided .is-in .pair) (candidates U low high decided) (candidates-are U low high decided))
+        turn-told = refl
 
         chooses : (choice : Choice) → ChosenBelow T 128 choice → Chooses U low high decided zoneTable choice
         chooses choice chosen =
             let by = tabled stepTable zoneTable lane arrival passing travel follow cross ranks pairs visit U told in
             let held = holds-undecided U low high decided ahead behind undecided holds in
             record {
-              none-left = λ e. turn-told ∙ ap (onTaken U low high decided) (choice-none U low high decided T by held choice chosen e);
-              taken = λ e. turn-told ∙ ap (onTaken U low high decided) (choice-some U low high decided T by held choice chosen e);
+              none-left = λ e. turn-told ∙ ap (onTaken U low high decided) (choice-none U low high decided T by held choice chosen time (spareTime Z G (movesMade Z) time) times-same spares-same e);
+              taken = λ e. turn-told ∙ ap (onTaken U low high decided) (choice-some U low high decided T by held choice chosen time (spareTime Z G (movesMade Z) time) times-same spares-same e);
             }
 
   -- ---- what the tables ask and tell, whatever the numbers of zones and carts are

@@ -1,32 +1,23 @@
 -- An opened group starts its trial; and where all its pairs are decided the group can be closed.
-use Prim.Native.Nat.{ℕ, _<_}
+use Prim.Native.Nat.{ℕ}
 use mathlib.Core.Path.{_≡_, sym, _∙_}
-use mathlib.Core.Logic.{_⊎_, inl, inr}
-use mathlib.Core.Bool.{Bool, true, false, true≢false, not-eq-not}
+use mathlib.Core.Bool.{Bool, true, false, true≢false}
 use mathlib.Core.Option.{some}
 use mathlib.Core.List.{List}
 use lib.ListN.{length}
 use Rattle.times.specs.Times.{Given}
 use Rattle.crossing.specs.Tables.{crossingOf, givenOf}
-use Rattle.removal.specs.Pairs.{Unplanned, Order, isDecided, rank}
-use Rattle.removal.specs.Present.{inGroup, isUndecided}
-use Rattle.removal.specs.Solved.{SolvedBelow, PairIn}
+use Rattle.removal.specs.Pairs.{Unplanned, Order}
 use Rattle.removal.specs.Removal.{trial}
-use Rattle.removal.proofs.Present.{group-says}
-use Rattle.removal.proofs.Candidates.{undecided-says}
 use Rattle.removal.proofs.Starts.{group-starts}
-use Rattle.removal.proofs.Trial.{Tried, trial-starts, trial-tried, tried-solved}
-use Rattle.orders_present.specs.Holds.{Holds, Below, InOrBelow}
-use Rattle.orders_present.proofs.Groups.{leaves-group}
+use Rattle.removal.proofs.Trial.{Tried, trial-starts, trial-tried, before-closed, tried-solved}
+use Rattle.orders_present.specs.Holds.{Holds}
+use Rattle.orders_present.proofs.Groups.{leaves-group, solved-below}
 use Rattle.groups.specs.Opening.{Opens}
 use Rattle.trials.specs.Trying.{Told, Solved, Triable, Tries}
 use Rattle.trials.specs.Turns.{Runs, Runnable, OnTrial, AllTried, OpenedTried}
 use Rattle.trials.specs.declared.Run.{Run}
 use Rattle.trials.proofs.Told.{told-sound, run-says}
-
-module _ (U : Unplanned) (low : ℕ) (decided : List Order) (solved : SolvedBelow U low decided) where
-  decided-below : Below U low decided
-  decided-below = record { both = λ z d c e. let ((_, a), (_, b)) = solved .of-pairs z d c e .ranks in (a, b) }
 
 module _ (steps zone lane arrival passing travel follow cross ranks pairs visit : List ℕ) (low high : ℕ) (ahead₀ behind₀ undecided₀ : List ℕ)
     (triable : Triable steps zone lane arrival passing travel follow cross ranks pairs visit low high ahead₀ behind₀ undecided₀) where
@@ -39,7 +30,7 @@ module _ (steps zone lane arrival passing travel follow cross ranks pairs visit 
   module _ (ahead behind undecided : List ℕ) (opens : Opens low high ranks pairs ahead₀ behind₀ undecided₀ ahead behind undecided) where
     opened : (U : Unplanned) → IsTold U → (decided : List Order) → Solved U low decided ahead₀ behind₀ undecided₀ → Holds U low high decided ahead behind undecided
     opened U told decided solved =
-        opens .holds U decided (told .has-ranks) (told .has-pairs) (triable .rising) (decided-below U low decided (solved .below)) (solved .holds)
+        opens .holds U decided (told .has-ranks) (told .has-pairs) (triable .rising) (solved-below U low decided (solved .below)) (solved .holds)
 
     abbrev held : Holds (triable .U) low high (triable .decided) ahead behind undecided
     held = opened (triable .U) (triable .told) (triable .decided) (triable .solved)
@@ -77,21 +68,12 @@ module _ (steps zone lane arrival passing travel follow cross ranks pairs visit 
     tried : Tried U (told .able) low high decided all
     tried = trial-tried U (told .able) low high decided (trial-starts U (told .able) low high decided (triable .rising) (solved .below)) all is
 
-    in-or-below : InOrBelow U low high all
-    in-or-below = record { both = λ z d c e. go z d c (tried .tries .added z d c e) }
-      where
-        go : (z d c : ℕ) → (isDecided decided z d c ≡ true) ⊎ PairIn U low high z d c
-            → ((rank U d < low) × (rank U c < low)) ⊎ ((inGroup low high (rank U d) ≡ true) × (inGroup low high (rank U c) ≡ true))
-        go z d c (inl was) = inl (decided-below U low decided (solved .below) .both z d c was)
-        go z d c (inr pair) = let (a, b) = pair .ranks in inr (group-says low high (rank U d) .1 a, group-says low high (rank U c) .1 b)
-
-    none-left : (z d c : ℕ) → isUndecided U low high all z d c ≡ false
-    none-left z d c = not-eq-not {b = false} .0 (λ e. tried .none-left z d c (undecided-says U low high all z d c .0 e))
-
     closed : (ahead behind undecided : List ℕ) → Holds U low high all ahead behind undecided → Solved U high all ahead behind undecided
     closed ahead behind undecided holds = record {
       below = tried-solved U (told .able) low high decided (triable .rising) (solved .below) all tried;
-      holds = leaves-group U low high all ahead behind undecided (triable .rising) in-or-below none-left holds;
+      holds =
+          leaves-group U low high all ahead behind undecided
+          (before-closed U (told .able) low high decided (triable .rising) (solved .below) all tried) (tried .none-left) holds;
     }
 
   module _ (ahead behind undecided : List ℕ) (found : Bool)

@@ -138,6 +138,56 @@ impl fmt::Display for NotJudged {
 impl Error for NotJudged {}
 
 const LOCKED: u32 = 22;
+#[cfg(feature = "controller")]
+const HELD: u32 = 26;
+
+/// The crossing record. The default, all zero, is the start.
+#[cfg(feature = "controller")]
+#[repr(C)]
+#[derive(Clone, Copy, Debug, Default, PartialEq, Eq)]
+pub struct Record {
+    /// Where each cart stands: 0 on the lane, k in the k-th zone of its route, steps + 1 out; absent carts 0.
+    pub position: [u8; CARTS],
+    /// The number of moves made.
+    pub made: u32,
+}
+
+/// A permitted move.
+#[cfg(feature = "controller")]
+#[derive(Clone, Copy, Debug, PartialEq, Eq)]
+pub struct Moved {
+    /// The cart's new position.
+    pub position: u8,
+    /// The new number of moves made.
+    pub made: u32,
+}
+
+/// Why a cart may not move.
+#[cfg(feature = "controller")]
+#[derive(Clone, Copy, Debug, PartialEq, Eq)]
+pub enum NotMoved {
+    /// The cart is held, 26 at 0: so many carts ahead have not left the zone that it wants.
+    Held(u32),
+    /// Another check fails.
+    Refused(Refusal),
+}
+
+#[cfg(feature = "controller")]
+impl fmt::Display for NotMoved {
+    fn fmt(&self, f: &mut fmt::Formatter<'_>) -> fmt::Result {
+        match self {
+            NotMoved::Held(_) => Refusal {
+                number: HELD,
+                place: 0,
+            }
+            .fmt(f),
+            NotMoved::Refused(refusal) => refusal.fmt(f),
+        }
+    }
+}
+
+#[cfg(feature = "controller")]
+impl Error for NotMoved {}
 
 /// The answer, where the outcome is done.
 fn answered<T>(outcome: Outcome, answer: T) -> Result<T, Refusal> {
@@ -208,4 +258,52 @@ pub fn passing_list<'p>(sheet: &[u8], plan: &'p [u8], zone: usize) -> Result<&'p
         linked::oblakosh_find_list(sheet.as_ptr(), sheet.len(), plan.as_ptr(), plan.len(), zone)
     };
     answered(found.outcome, &plan[found.start..][..found.length])
+}
+
+#[cfg(feature = "controller")]
+fn moved(asked: linked::Asked) -> Result<Moved, NotMoved> {
+    let permitted = Moved {
+        position: asked.position,
+        made: asked.made,
+    };
+    match answered(asked.outcome, permitted) {
+        Err(Refusal { number: HELD, .. }) => Err(NotMoved::Held(asked.ahead)),
+        answer => answer.map_err(NotMoved::Refused),
+    }
+}
+
+/// What [`move_cart`] would answer, with the record left as it is.
+#[cfg(feature = "controller")]
+pub fn ask(sheet: &[u8], plan: &[u8], record: Record, cart: usize) -> Result<Moved, NotMoved> {
+    moved(unsafe {
+        linked::oblakosh_ask(
+            sheet.as_ptr(),
+            sheet.len(),
+            plan.as_ptr(),
+            plan.len(),
+            record,
+            cart,
+        )
+    })
+}
+
+/// To be called before a cart rolls. If its next move is permitted, the cart's new position and the new number of moves,
+/// both stored in the record; or 1 to 26, and the record is unchanged.
+#[cfg(feature = "controller")]
+pub fn move_cart(
+    sheet: &[u8],
+    plan: &[u8],
+    record: &mut Record,
+    cart: usize,
+) -> Result<Moved, NotMoved> {
+    moved(unsafe {
+        linked::oblakosh_move_cart(
+            sheet.as_ptr(),
+            sheet.len(),
+            plan.as_ptr(),
+            plan.len(),
+            record,
+            cart,
+        )
+    })
 }

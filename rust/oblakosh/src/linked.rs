@@ -1,4 +1,6 @@
 //! include/oblakosh.h once more. Nothing holds these declarations to the libraries but the sizes below and the tests.
+#[cfg(feature = "controller")]
+use crate::Record;
 use crate::{Orders, Ring, Sheet};
 use std::mem::size_of;
 
@@ -45,6 +47,15 @@ pub struct ListFound {
     pub length: usize,
 }
 
+#[cfg(feature = "controller")]
+#[repr(C)]
+pub struct Asked {
+    pub outcome: Outcome,
+    pub position: u8,
+    pub made: u32,
+    pub ahead: u32,
+}
+
 extern "C" {
     pub fn oblakosh_read_sheet(s: *const u8, s_length: usize) -> SheetRead;
     pub fn oblakosh_read_plan(
@@ -80,6 +91,22 @@ extern "C" {
         p_length: usize,
         zone: usize,
     ) -> ListFound;
+    pub fn oblakosh_ask(
+        s: *const u8,
+        s_length: usize,
+        p: *const u8,
+        p_length: usize,
+        lent: Record,
+        cart: usize,
+    ) -> Asked;
+    pub fn oblakosh_move_cart(
+        s: *const u8,
+        s_length: usize,
+        p: *const u8,
+        p_length: usize,
+        lent: *mut Record,
+        cart: usize,
+    ) -> Asked;
 }
 
 const _: () = assert!(size_of::<Outcome>() == 16);
@@ -88,3 +115,5 @@ const _: () = assert!(size_of::<PlanRead>() == 1528);
 const _: () = assert!(size_of::<Judged>() == 64);
 #[cfg(feature = "controller")]
 const _: () = assert!(size_of::<PlanWritten>() == 24 && size_of::<ListFound>() == 32);
+#[cfg(feature = "controller")]
+const _: () = assert!(size_of::<Record>() == 20 && size_of::<Asked>() == 32);

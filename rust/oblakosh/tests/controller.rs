@@ -1,5 +1,7 @@
-//! The controller's operations through the wrapper, and what the lent room holds after an answer and after a refusal.
-use oblakosh::{passing_list, write_again, Refusal};
+//! The controller's operations through the wrapper, and what lent room and record hold after an answer and after a refusal.
+use oblakosh::{
+    ask, move_cart, passing_list, write_again, Moved, NotMoved, Record, Refusal, CARTS,
+};
 
 const S: &[u8] = include_bytes!("../../../examples/S.sheet");
 const A: &[u8] = b"\x01\x00\x0A\x02\x02\x00\x01\x02\x00\x01";
@@ -57,4 +59,50 @@ fn no_list_beyond_the_last_zone() {
             place: 0
         })
     );
+}
+
+/// The record of two carts.
+fn record(first: u8, second: u8, made: u32) -> Record {
+    let mut position = [0; CARTS];
+    position[..2].copy_from_slice(&[first, second]);
+    Record { position, made }
+}
+
+/// What is answered, which asking by value must answer too; and what the record then holds.
+fn requested(plan: &[u8], mut record: Record, cart: usize) -> (Result<Moved, NotMoved>, Record) {
+    let asked = ask(S, plan, record, cart);
+    let answer = move_cart(S, plan, &mut record, cart);
+    assert_eq!(answer, asked);
+    (answer, record)
+}
+
+#[test]
+fn a_permitted_move_is_stored() {
+    assert_eq!(
+        requested(A, record(3, 0, 3), 1),
+        (
+            Ok(Moved {
+                position: 1,
+                made: 4
+            }),
+            record(3, 1, 4)
+        )
+    );
+}
+
+#[test]
+fn a_refused_request_leaves_the_record_as_it_was() {
+    let refused = |number| NotMoved::Refused(Refusal { number, place: 0 });
+    for (plan, lent, cart, expected) in [
+        (B, Record::default(), 0, refused(22)),
+        (A, record(1, 1, 2), 0, refused(23)),
+        (A, record(2, 0, 2), 1, NotMoved::Held(1)),
+        (A, record(2, 0, 3), 1, refused(23)),
+        (A, record(3, 3, 6), 0, refused(25)),
+        (A, record(3, 3, 6), 2, refused(24)),
+        (A, record(3, 3, 6), usize::MAX, refused(24)),
+    ] {
+        assert_eq!(requested(plan, lent, cart), (Err(expected), lent));
+    }
+    assert_eq!(NotMoved::Held(1).to_string(), "refused 26 at 0");
 }

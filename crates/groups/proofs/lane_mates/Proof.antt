@@ -2,19 +2,22 @@
 use Prim.Native.Nat.{_-_, _≤_}
 use mathlib.Core.Path.{_≡_, _∙_}
 use native.Mathlib.Omega.{arith}
-use Rattle.groups.proofs.Starting.{matesTo, mates-none, mates-next, mates-all}
+use Rattle.sheet.specs.Reading.{table}
+use Rattle.groups.specs.Starting.{laneMates}
+use Rattle.groups.proofs.Filling.{filled-none, filled-next, filled-all}
+use Rattle.groups.proofs.Starting.{mate, mate-is}
 use borrow.Author.Needs.{needs}
 use Rattle.groups.proofs.lane_mates.Statement.{statement}
 use Rattle.groups.proofs.lane_mates.Tie as tie
 
 abbrev Inv-loop : tie.InvT-loop
-Inv-loop lane mates₀ c₀ mates c = (c ≤ 16) × (mates ≡ matesTo lane c)
+Inv-loop lane mates₀ c₀ mates c = (c ≤ 16) × (mates ≡ table 16 c (mate lane))
 
 abbrev μ-loop : tie.MeasureT-loop
 μ-loop lane mates₀ c₀ mates c = 16 - c
 
 loop-holds : tie.Need-loop-holds Inv-loop μ-loop
-loop-holds c = (omega arith, mates-none _)
+loop-holds c = (omega arith, filled-none 16 _)
 
 element-copy-out-wide : tie.Need-element-copy-out-wide Inv-loop μ-loop
 element-copy-out-wide c = search needs
@@ -47,10 +50,13 @@ loop-less : tie.Need-loop-less Inv-loop μ-loop
 loop-less c = omega arith
 
 loop-again : tie.Need-loop-again Inv-loop μ-loop
-loop-again c = (omega arith, mates-next _ _ _ _ _ _ _ (c .before .before .before .before .before .loop-test .taken) (c .before .before .before .wide .ensures .0) (c .before .before .at-least .ensures) (c .before .at-least2 .ensures) (c .less .ensures) (omega (arith, c .less .ok)) (c .before .before .before .before .before .before .loop .inv .1))
+loop-again c =
+    let own = mate-is (c .before .before .before .before .before .before .before .args .lane .now) _ _ _ _ _ (c .before .before .before .wide .ensures .0) (c .before .before .at-least .ensures) (c .before .at-least2 .ensures) (c .less .ensures) (omega (arith, c .less .ok)) in
+    (omega arith, filled-next 16 _ _ _ _ (c .before .before .before .before .before .loop-test .taken) own (c .before .before .before .before .before .before .loop .inv .1))
 
 returns : tie.Need-returns Inv-loop μ-loop
-returns c = c .before .loop .inv .1 ∙ mates-all _ _ (omega arith)
+unfolding laneMates
+returns c = c .before .loop .inv .1 ∙ filled-all 16 _ _ (omega arith)
 
 pub lane-mates-spec : {M : Type 1} → statement M
 lane-mates-spec =

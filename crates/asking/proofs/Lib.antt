@@ -1,0 +1,5 @@
+pub mod Counted
+pub mod Ahead
+pub mod Verdict
+pub mod Request
+pub mod AskLaws

@@ -1,11 +1,10 @@
 -- The choice is the order that the turn takes: the tables hold the run's entering times and spare times, and any run gives the same.
-use Prim.Native.Nat.{ℕ, suc, _+_, _*_, _≤_, _<_}
+use Prim.Native.Nat.{ℕ, _+_, _*_, _≤_, _<_}
 use mathlib.Core.Path.{_≡_, refl, sym, ap, subst, _∙_}
 use mathlib.Core.Bool.{Bool, true, false}
-use mathlib.Core.Option.{none, some}
 use mathlib.Core.List.{List, []}
 use native.Mathlib.Omega.{arith}
-use lib.ListN.{length, getD, take, replicate}
+use lib.ListN.{getD, take, replicate}
 use lib.Dec.{eqb}
 use Rattle.words.specs.Lists.{pick}
 use Rattle.sets.specs.Member.{has}
@@ -19,7 +18,7 @@ use Rattle.times.specs.Times.{Given, largest, finish}
 use Rattle.times.proofs.Rules.{times-keep}
 use Rattle.times.proofs.Largest.{largest-most}
 use Rattle.crossing.specs.Tables.{crossingOf, givenOf}
-use Rattle.entering.specs.Times.{timesOf, AtMost}
+use Rattle.entering.specs.Times.{timesOf}
 use Rattle.running.proofs.Verdict.{settled-times}
 use Rattle.finish.specs.Finish.{lastAt, lastLeaving, Leavable}
 use Rattle.finish.proofs.Finish.{finish-is}
@@ -45,7 +44,7 @@ use Rattle.costs.specs.Choices.{ChosenBelow}
 use Rattle.costs.specs.declared.Choice.{Choice}
 use Rattle.costs.proofs.Group.{choice-none, choice-some}
 use Rattle.trials.specs.Trying.{Told}
-use Rattle.trials.specs.Turns.{Runs, RunsOut, Candidate, Underway, Chooses, Choosable, Chosen}
+use Rattle.trials.specs.Turns.{Runs, RunsOut, Underway, Chooses, Chosen}
 use Rattle.trials.specs.declared.Run.{Run}
 use Rattle.trials.proofs.Told.{on-tables, tabled, told-sound, run-says, holds-undecided}
 

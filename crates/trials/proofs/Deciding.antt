@@ -1,15 +1,12 @@
 -- A candidate of the table is an undecided pair of U, and its steps stand where they are looked up; so each direction is decided and tried.
 use Prim.Native.Nat.{ℕ, _+_, _*_, _/_, _%_, _<_}
 use mathlib.Core.Path.{_≡_, sym, ap, ap₂, _∙_}
-use mathlib.Core.Bool.{Bool, true, false, true≢false, not, _&&_}
+use mathlib.Core.Bool.{Bool, true, false, true≢false}
 use mathlib.Core.Option.{Option, none}
-use mathlib.Core.List.{List, [], _∷_}
+use mathlib.Core.List.{List, _∷_}
 use native.Mathlib.Nat.{div-add-mod}
-use native.Mathlib.Omega.{arith}
 use lib.ListN.{length, getD}
-use Rattle.words.proofs.Tests.{and-both}
 use Rattle.sets.specs.Member.{has}
-use Rattle.routes.specs.Lists.{Named}
 use Rattle.routes.specs.Crossing.{steps, zone}
 use Rattle.times.specs.Times.{Given}
 use Rattle.crossing.specs.Tables.{crossingOf, givenOf}
@@ -25,7 +22,7 @@ use Rattle.orders_present.specs.Holds.{Holds}
 use Rattle.orders_present.specs.Deciding as tables
 use Rattle.orders_present.proofs.Added.{undecided-turned}
 use Rattle.trials.specs.Trying.{Told}
-use Rattle.trials.specs.Turns.{Runs, Runnable, orderOf, Candidate, Decides, Underway, Decidable, Decided}
+use Rattle.trials.specs.Turns.{Runs, Runnable, orderOf, Candidate, Decides, Underway, Decided}
 use Rattle.trials.specs.declared.Run.{Run}
 use Rattle.trials.proofs.Told.{step-is, told-sound, run-says, undecided-step}
 

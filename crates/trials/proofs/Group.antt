@@ -14,8 +14,8 @@ use Rattle.removal.proofs.Trial.{Tried, trial-starts, trial-tried, before-close
 use Rattle.orders_present.specs.Holds.{Holds}
 use Rattle.orders_present.proofs.Groups.{leaves-group, solved-below}
 use Rattle.groups.specs.Opening.{Opens}
-use Rattle.trials.specs.Trying.{Told, Solved, TriedAs, Triable, Tries}
-use Rattle.trials.specs.Turns.{Runs, Runnable, Underway, Ends, OnTrial, AllTried, OpenedTried}
+use Rattle.trials.specs.Trying.{Told, Solved, Triable, Tries}
+use Rattle.trials.specs.Turns.{Runs, Runnable, OnTrial, AllTried, OpenedTried}
 use Rattle.trials.specs.declared.Run.{Run}
 use Rattle.trials.proofs.Told.{told-sound, run-says}
 

@@ -1,8 +1,8 @@
 -- What is tried from here on is what was tried at the start: each turn of the loop is a turn of the trial.
 use Prim.Native.Nat.{ℕ, suc, _<_}
-use mathlib.Core.Path.{_≡_, refl, sym, ap, _∙_}
+use mathlib.Core.Path.{_≡_, refl, sym, _∙_}
 use mathlib.Core.Bool.{Bool, true, false, true≢false}
-use mathlib.Core.Option.{none, some}
+use mathlib.Core.Option.{none}
 use mathlib.Core.List.{List}
 use native.Mathlib.Omega.{arith}
 use Rattle.words.specs.Lists.{pick}
@@ -13,7 +13,6 @@ use Rattle.removal.specs.Removal.{trial}
 use Rattle.removal.proofs.Turns.{turn-more, trial-more, trial-stop}
 use Rattle.orders_present.specs.Holds.{Holds}
 use Rattle.costs.specs.declared.Choice.{Choice}
-use Rattle.trials.specs.Trying.{Told}
 use Rattle.trials.specs.Turns.{Runs, Underway, OfAll, Chooses, Choosable, Chosen, Decidable, Decided, OnTrial, AllTried}
 use Rattle.trials.specs.declared.Run.{Run}
 use Rattle.trials.proofs.Falling.{undecided-falls}

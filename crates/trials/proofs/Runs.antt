@@ -1,8 +1,6 @@
 -- All carts are out exactly where none is stuck.
 use Prim.Native.Nat.{ℕ, _≤_, _<_}
-use mathlib.Core.Path.{_≡_, refl, ap, _∙_}
-use mathlib.Core.Logic.{_↔_}
-use mathlib.Core.Bool.{true}
+use mathlib.Core.Path.{_≡_, ap, _∙_}
 use mathlib.Core.List.{List}
 use native.Mathlib.Decide.{decLt}
 use native.Mathlib.Omega.{arith}
@@ -13,7 +11,6 @@ use borrow.Author.Tests.{le-leb, leb-true}
 use Rattle.moves.specs.System.{System, pos, start, InRange}
 use Rattle.moves.proofs.Runs.{start-in-range, reaches-in-range}
 use Rattle.moves.proofs.Ends.{end-reached}
-use Rattle.routes.specs.Crossing.{Crossing}
 use Rattle.routes.specs.Moves.{system, movesOf}
 use Rattle.routes.proofs.Moves.{out-are}
 use Rattle.times.specs.Times.{Given}

@@ -12,7 +12,6 @@ use Rattle.sets.specs.Member.{has}
 use Rattle.sets.proofs.Laws.{has-none}
 use Rattle.moves.specs.System.{System}
 use Rattle.routes.specs.Crossing.{steps, zone}
-use Rattle.routes.specs.Moves.{system}
 use Rattle.times.specs.Times.{Given}
 use Rattle.crossing.specs.Tables.{crossingOf, givenOf}
 use Rattle.crossing.specs.Sound.{Sound}

@@ -34,7 +34,8 @@ pub record Solved (U : Unplanned) (low : ℕ) (decided : List Order) (ahead behi
   pub below : SolvedBelow U low decided
   pub holds : Holds U low low decided ahead behind undecided
 
--- the trial of the group gave its orders, and the tables hold them; or it gave none, and they hold what they held
+-- the trial of the group gave its orders, and the tables hold them with the ranks below `high` solved; or it gave none,
+-- "the group's decisions are dropped", and they hold what they held
 pub record TriedAs (U : Unplanned) (low high : ℕ) (decided : List Order) (ahead behind undecided : List ℕ) (found : Bool) : Type 0 where
   pub some-orders : found ≡ true
       → ((all : List Order) × ((trial U low high decided ≡ some all) × Solved U high all ahead behind undecided))

@@ -21,14 +21,16 @@ use Rattle.costs.specs.declared.Choice.{Choice}
 use Rattle.trials.specs.Trying.{Told, Solved}
 use Rattle.trials.specs.declared.Run.{Run}
 
--- the run over the orders that `ahead` holds: its entering times and moves, and whether all carts come out
+-- carts run over a crossing X: "work out times over the orders present"
 module _ (X : Crossing) (G : Given) where
+  -- the tables hold the run's entering times and moves, and it is known whether all carts come out
   pub record Runs (enter order : List ℕ) (run : Run) : Type 0 where
     pub at : List ℕ
     pub left : List ℕ
     pub settled : SettlesAs X G at left enter order (run .made)
     pub out : (run .out ≡ true) ↔ (at ≡ system X .out)
 
+  -- and all do
   pub record RunsOut (enter order : List ℕ) (run : Run) : Type 0 where
     pub runs : Runs enter order run
     pub comes-out : run .out ≡ true
@@ -48,17 +50,17 @@ pub record Candidate (undecided : List ℕ) (step first : ℕ) : Type 0 where
   pub first-below : first < 16
   pub is-undecided : has (getD undecided step 0) first ≡ true
 
--- what a choice tells of the turn: there is no pair to decide, or which order is taken
+-- "Take the direction of largest cost": what a choice tells of the turn, that no pair is left to decide, or which order is taken
 pub record Chooses (U : Unplanned) (low high : ℕ) (decided : List Order) (zone : List ℕ) (choice : Choice) : Type 0 where
   pub none-left : choice .found ≡ false → turn U low high decided ≡ stop (some decided)
   pub taken : choice .found ≡ true → turn U low high decided ≡ decide U low high decided (orderOf zone (choice .step) (choice .first))
 
--- an order more is decided and held by the tables, or neither direction comes out
+-- "Decide the opposite. If the moves now have a cycle, decide this direction instead.": the tables hold the order decided, or both directions have a cycle
 pub record Decides (U : Unplanned) (low high : ℕ) (decided : List Order) (o : Order) (ahead behind undecided : List ℕ) (out : Bool) : Type 0 where
   pub one-more : out ≡ true → (next : List Order) × ((decide U low high decided o ≡ more next) × Holds U low high next ahead behind undecided)
   pub fails : out ≡ false → decide U low high decided o ≡ stop none
 
--- the trial's end: its orders, held by the tables, or none
+-- "While a pair is undecided": the trial gave its orders, which the tables hold, or none
 pub record Ends (U : Unplanned) (low high : ℕ) (decided : List Order) (ahead behind undecided : List ℕ) (found : Bool) : Type 0 where
   pub some-orders : found ≡ true
       → (all : List Order) × ((trial U low high decided ≡ some all) × Holds U low high all ahead behind undecided)
@@ -79,7 +81,7 @@ module _ (steps zone lane arrival passing travel follow cross ranks pairs visit 
   OfAll Claim = (U : Unplanned) (low high : ℕ) (decided : List Order) → Told U steps zone lane arrival passing travel follow cross ranks pairs visit
       → Holds U low high decided ahead behind undecided → Claim U low high decided
 
--- an order is chosen from what these tables hold, whatever the others are
+-- an order is chosen, whatever the tables are that it does not look at: what is asked, and what the choice tells
 module _ (steps zone passing cross ranks visit behind undecided enter order : List ℕ) (run : Run) where
   pub record Choosable : Type 0 where
     pub lane : List ℕ
@@ -98,7 +100,7 @@ module _ (steps zone passing cross ranks visit behind undecided enter order : Li
         → OfAll steps zone lane arrival passing travel follow cross ranks pairs visit ahead behind undecided
         (λ U low high decided. Chooses U low high decided zone choice)
 
--- one of its two directions is decided
+-- one of its two directions is decided: what is asked, and what the run that follows tells
 module _ (steps zone lane arrival passing travel follow cross visit ahead behind undecided : List ℕ) (step first : ℕ) where
   pub record Decidable (order : List ℕ) : Type 0 where
     pub ranks : List ℕ
@@ -112,7 +114,7 @@ module _ (steps zone lane arrival passing travel follow cross visit ahead behind
     pub decides : (ranks pairs : List ℕ) → OfAll steps zone lane arrival passing travel follow cross ranks pairs visit ahead behind undecided
         (λ U low high decided. Decides U low high decided (orderOf zone step first) ahead′ behind′ undecided′ (run .out))
 
--- orders are decided until no pair is left undecided
+-- orders are decided until no pair is left undecided: what is asked, and what the tables hold then
 module _ (steps zone lane arrival passing travel follow cross ranks visit ahead behind undecided : List ℕ) where
   pub record OnTrial (enter order : List ℕ) (run : Run) : Type 0 where
     pub pairs : List ℕ

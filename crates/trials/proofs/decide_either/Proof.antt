@@ -25,7 +25,7 @@ cast-other-2 : tie.Need-cast-other-2
 cast-other-2 c = omega (arith, ((c .before .before .pre .underway .told) .places .below (16 * getD (c .before .before .args .zone .now) (c .before .before .args .step) 0 + c .before .before .args .first)))
 
 decide-requires : tie.Need-decide-requires
-decide-requires c κs = (((c .before .before .before .before .before .pre .underway .told) .places .below (16 * getD (c .before .before .before .before .before .args .zone .now) (c .before .before .before .before .before .args .step) 0 + c .before .before .before .before .before .args .first)), (c .before .before .before .before .before .pre .candidate .step-below))
+decide-requires c κs = (omega (arith, ((c .before .before .before .before .before .pre .underway .told) .places .below (16 * getD (c .before .before .before .before .before .args .zone .now) (c .before .before .before .before .before .args .step) 0 + c .before .before .before .before .before .args .first)), (c .before .before .before .before .before .pre .candidate .step-below)), omega (arith, ((c .before .before .before .before .before .pre .underway .told) .places .below (16 * getD (c .before .before .before .before .before .args .zone .now) (c .before .before .before .before .before .args .step) 0 + c .before .before .before .before .before .args .first)), (c .before .before .before .before .before .pre .candidate .step-below)))
 
 run-out-requires : tie.Need-run-out-requires
 run-out-requires c κs = opposite-runnable _ _ _ _ _ _ _ _ _ _ _ _ _ _ (c .before .before .before .before .before .before .before .before .before .pre .candidate) _ _ _ (c .before .before .before .decide .ensures) (c .before .before .before .before .before .before .before .before .before .pre .ranks, c .before .before .before .before .before .before .before .before .before .pre .pairs, c .before .before .before .before .before .before .before .before .before .pre .underway) _ (c .before .before .before .before .before .before .before .before .before .pre .order-144)
@@ -34,7 +34,7 @@ returns : tie.Need-returns
 returns c = opposite-decided _ _ _ _ _ _ _ _ _ _ _ _ _ _ (c .before .before .before .before .before .before .before .before .before .before .before .pre .candidate) _ _ _ (c .before .before .before .before .before .decide .ensures) _ _ _ (c .before .run-out .ensures) (c .if1 .taken)
 
 turn-round-requires : tie.Need-turn-round-requires
-turn-round-requires c κs = (((c .before .before .before .before .before .before .before .before .before .before .before .before .before .pre .underway .told) .places .below (16 * getD (c .before .before .before .before .before .before .before .before .before .before .before .before .before .args .zone .now) (c .before .before .before .before .before .before .before .before .before .before .before .before .before .args .step) 0 + c .before .before .before .before .before .before .before .before .before .before .before .before .before .args .first)), (c .before .before .before .before .before .before .before .before .before .before .before .before .before .pre .candidate .step-below))
+turn-round-requires c κs = (omega (arith, ((c .before .before .before .before .before .before .before .before .before .before .before .before .before .pre .underway .told) .places .below (16 * getD (c .before .before .before .before .before .before .before .before .before .before .before .before .before .args .zone .now) (c .before .before .before .before .before .before .before .before .before .before .before .before .before .args .step) 0 + c .before .before .before .before .before .before .before .before .before .before .before .before .before .args .first)), (c .before .before .before .before .before .before .before .before .before .before .before .before .before .pre .candidate .step-below)), omega (arith, ((c .before .before .before .before .before .before .before .before .before .before .before .before .before .pre .underway .told) .places .below (16 * getD (c .before .before .before .before .before .before .before .before .before .before .before .before .before .args .zone .now) (c .before .before .before .before .before .before .before .before .before .before .before .before .before .args .step) 0 + c .before .before .before .before .before .before .before .before .before .before .before .before .before .args .first)), (c .before .before .before .before .before .before .before .before .before .before .before .before .before .pre .candidate .step-below)))
 
 run-out-requires-2 : tie.Need-run-out-requires-2
 run-out-requires-2 c κs = this-runnable _ _ _ _ _ _ _ _ _ _ _ _ _ _ (c .before .before .before .before .before .before .before .before .before .before .before .before .before .before .before .before .before .pre .candidate) _ _ _ (c .before .before .before .before .before .before .before .before .before .before .before .decide .ensures) _ _ _ (c .before .before .before .before .before .before .before .run-out .ensures) (c .before .before .before .before .before .before .if1 .left) _ _ (c .before .before .before .turn-round .ensures) (c .before .before .before .before .before .before .before .before .before .before .before .before .before .before .before .before .before .pre .ranks, c .before .before .before .before .before .before .before .before .before .before .before .before .before .before .before .before .before .pre .pairs, c .before .before .before .before .before .before .before .before .before .before .before .before .before .before .before .before .before .pre .underway)

@@ -1,3 +1,4 @@
+use entering::lanes;
 use one_move::make_move;
 use one_move::may_move;
 ghost use mathlib.Core.Path.{_≡_};
@@ -5,6 +6,7 @@ ghost use Prim.Native.Nat.{_<_};
 ghost use lib.ListN.{length, replicate};
 ghost use Rattle.crossing.specs.Tables.{crossingOf, givenOf};
 ghost use Rattle.crossing.specs.Sound.{Sound};
+ghost use Rattle.entering.specs.Lanes.{LaneSets};
 ghost use Rattle.running.specs.Rounds.{Underway, Advanced, Swept};
 ghost use Rattle.running.specs.Settled.{SettlesAs};
 
@@ -13,7 +15,7 @@ fn advance<'a>(
     steps: &'a [u8; 16],
     zone: &'a [u8; 128],
     ahead: &'a [u16; 128],
-    lane: &'a [u8; 16],
+    same: &[u16; 16],
     arrival: &'a [u32; 16],
     passing: &'a [u16; 128],
     travel: &'a [u16; 128],
@@ -27,8 +29,8 @@ fn advance<'a>(
     c: usize,
     before: usize,
 ) -> usize
-    requires { ⌜ Underway (crossingOf (now steps) (now zone) (now ahead)) (givenOf (now lane) (now arrival) (now passing) (now travel) (now follow) (now cross)) (now at) (now left) (now leave) (now enter) (now order) before × (c < 16) ⌝ }
-    ensures { λ r. ⌜ Advanced (crossingOf (now (steps .entry)) (now (zone .entry)) (now (ahead .entry))) (givenOf (now (lane .entry)) (now (arrival .entry)) (now (passing .entry)) (now (travel .entry)) (now (follow .entry)) (now (cross .entry))) (now (at .entry)) (now (at .exit)) (now (left .exit)) (now (leave .exit)) (now (enter .exit)) (now (order .exit)) c before r ⌝ }
+    requires { ⌜ Underway (crossingOf (now steps) (now zone) (now ahead)) (givenOf (now same) (now arrival) (now passing) (now travel) (now follow) (now cross)) (now at) (now left) (now leave) (now enter) (now order) before × (c < 16) × LaneSets (now same) ⌝ }
+    ensures { λ r. ⌜ Advanced (crossingOf (now (steps .entry)) (now (zone .entry)) (now (ahead .entry))) (givenOf (now (same .entry)) (now (arrival .entry)) (now (passing .entry)) (now (travel .entry)) (now (follow .entry)) (now (cross .entry))) (now (at .entry)) (now (at .exit)) (now (left .exit)) (now (leave .exit)) (now (enter .exit)) (now (order .exit)) c before r ⌝ }
 {
     let mut made = before;
     while may_move(steps, zone, ahead, at, left, c) {
@@ -37,7 +39,7 @@ fn advance<'a>(
             steps,
             zone,
             ahead,
-            lane,
+            same,
             arrival,
             passing,
             travel,
@@ -59,7 +61,7 @@ fn sweep<'a>(
     steps: &'a [u8; 16],
     zone: &'a [u8; 128],
     ahead: &'a [u16; 128],
-    lane: &'a [u8; 16],
+    same: &[u16; 16],
     arrival: &'a [u32; 16],
     passing: &'a [u16; 128],
     travel: &'a [u16; 128],
@@ -72,8 +74,8 @@ fn sweep<'a>(
     order: &mut [u8; 144],
     before: usize,
 ) -> usize
-    requires { ⌜ Underway (crossingOf (now steps) (now zone) (now ahead)) (givenOf (now lane) (now arrival) (now passing) (now travel) (now follow) (now cross)) (now at) (now left) (now leave) (now enter) (now order) before ⌝ }
-    ensures { λ r. ⌜ Swept (crossingOf (now (steps .entry)) (now (zone .entry)) (now (ahead .entry))) (givenOf (now (lane .entry)) (now (arrival .entry)) (now (passing .entry)) (now (travel .entry)) (now (follow .entry)) (now (cross .entry))) (now (at .exit)) (now (left .exit)) (now (leave .exit)) (now (enter .exit)) (now (order .exit)) before r ⌝ }
+    requires { ⌜ Underway (crossingOf (now steps) (now zone) (now ahead)) (givenOf (now same) (now arrival) (now passing) (now travel) (now follow) (now cross)) (now at) (now left) (now leave) (now enter) (now order) before × LaneSets (now same) ⌝ }
+    ensures { λ r. ⌜ Swept (crossingOf (now (steps .entry)) (now (zone .entry)) (now (ahead .entry))) (givenOf (now (same .entry)) (now (arrival .entry)) (now (passing .entry)) (now (travel .entry)) (now (follow .entry)) (now (cross .entry))) (now (at .exit)) (now (left .exit)) (now (leave .exit)) (now (enter .exit)) (now (order .exit)) before r ⌝ }
 {
     let mut made = before;
     let mut c = 0;
@@ -82,7 +84,7 @@ fn sweep<'a>(
             steps,
             zone,
             ahead,
-            lane,
+            same,
             arrival,
             passing,
             travel,
@@ -125,6 +127,7 @@ pub fn settle<'a>(
     requires { ⌜ Sound (crossingOf (now steps) (now zone) (now ahead)) (givenOf (now lane) (now arrival) (now passing) (now travel) (now follow) (now cross)) × (now enter ≡ replicate 128 0) × (length (now order) ≡ 144) ⌝ }
     ensures { λ r. ⌜ SettlesAs (crossingOf (now (steps .entry)) (now (zone .entry)) (now (ahead .entry))) (givenOf (now (lane .entry)) (now (arrival .entry)) (now (passing .entry)) (now (travel .entry)) (now (follow .entry)) (now (cross .entry))) (r .at) (r .left) (now (enter .exit)) (now (order .exit)) (r .made) ⌝ }
 {
+    let same = lanes(lane);
     let mut at = [0u8; 16];
     let mut left = [0u16; 24];
     let mut leave = [0u32; 384];
@@ -135,7 +138,7 @@ pub fn settle<'a>(
             steps,
             zone,
             ahead,
-            lane,
+            &same,
             arrival,
             passing,
             travel,

@@ -12,10 +12,10 @@ use Rattle.running.proofs.advance.Statement.{statement}
 use Rattle.running.proofs.advance.Tie as tie
 
 abbrev Inv-loop : tie.InvT-loop
-Inv-loop steps zone ahead lane arrival passing travel follow cross at₀ left₀ leave₀ enter₀ order₀ c before made₀ at left leave enter order made = Onward (crossingOf steps zone ahead) (givenOf lane arrival passing travel follow cross) at₀ at left leave enter order before made
+Inv-loop steps zone ahead same arrival passing travel follow cross at₀ left₀ leave₀ enter₀ order₀ c before made₀ at left leave enter order made = Onward (crossingOf steps zone ahead) (givenOf same arrival passing travel follow cross) at₀ at left leave enter order before made
 
 abbrev μ-loop : tie.MeasureT-loop
-μ-loop steps zone ahead lane arrival passing travel follow cross at₀ left₀ leave₀ enter₀ order₀ c before made₀ at left leave enter order made = 9 - pos at c
+μ-loop steps zone ahead same arrival passing travel follow cross at₀ left₀ leave₀ enter₀ order₀ c before made₀ at left leave enter order made = 9 - pos at c
 
 loop-holds : tie.Need-loop-holds Inv-loop μ-loop
 loop-holds c = onward-start _ _ _ _ _ _ _ _ (c .pre .0)
@@ -30,7 +30,7 @@ element-write-order : tie.Need-element-write-order Inv-loop μ-loop
 element-write-order c = onward-room _ _ _ _ _ _ _ _ _ _ (c .before .before .before .before .loop .inv) _ (c .before .may-move .ensures .0 (c .if1 .taken))
 
 make-move-requires : tie.Need-make-move-requires Inv-loop μ-loop
-make-move-requires c κs = (c .before .before .before .before .before .before .before .before .loop .inv .underway .running, c .before .before .before .before .before .before .before .before .before .pre .1, (c .before .before .before .before .before .may-move .ensures .0 (c .before .before .before .before .if1 .taken)))
+make-move-requires c κs = (c .before .before .before .before .before .before .before .before .loop .inv .underway .running, c .before .before .before .before .before .before .before .before .before .pre .1, (c .before .before .before .before .before .may-move .ensures .0 (c .before .before .before .before .if1 .taken)), c .before .before .before .before .before .before .before .before .before .pre .2)
 
 add-made : tie.Need-add-made Inv-loop μ-loop
 add-made c = omega (arith, onward-room _ _ _ _ _ _ _ _ _ _ (c .before .before .before .before .before .before .before .before .before .loop .inv) _ (c .before .before .before .before .before .before .may-move .ensures .0 (c .before .before .before .before .before .if1 .taken)))

@@ -8,16 +8,16 @@ use Rattle.running.proofs.sweep.Statement.{statement}
 use Rattle.running.proofs.sweep.Tie as tie
 
 abbrev Inv-loop : tie.InvT-loop
-Inv-loop steps zone ahead lane arrival passing travel follow cross at₀ left₀ leave₀ enter₀ order₀ before made₀ c₀ at left leave enter order made c = Sweeping (crossingOf steps zone ahead) (givenOf lane arrival passing travel follow cross) at left leave enter order before made c
+Inv-loop steps zone ahead same arrival passing travel follow cross at₀ left₀ leave₀ enter₀ order₀ before made₀ c₀ at left leave enter order made c = Sweeping (crossingOf steps zone ahead) (givenOf same arrival passing travel follow cross) at left leave enter order before made c
 
 abbrev μ-loop : tie.MeasureT-loop
-μ-loop steps zone ahead lane arrival passing travel follow cross at₀ left₀ leave₀ enter₀ order₀ before made₀ c₀ at left leave enter order made c = 16 - c
+μ-loop steps zone ahead same arrival passing travel follow cross at₀ left₀ leave₀ enter₀ order₀ before made₀ c₀ at left leave enter order made c = 16 - c
 
 loop-holds : tie.Need-loop-holds Inv-loop μ-loop
-loop-holds c = sweeping-start _ _ _ _ _ _ _ _ (c .pre)
+loop-holds c = sweeping-start _ _ _ _ _ _ _ _ (c .pre .0)
 
 advance-requires : tie.Need-advance-requires Inv-loop μ-loop
-advance-requires c κs = (c .before .before .before .before .before .before .loop .inv .underway, omega (arith, c .before .before .before .before .before .loop-test .taken))
+advance-requires c κs = (c .before .before .before .before .before .before .loop .inv .underway, omega (arith, c .before .before .before .before .before .loop-test .taken), c .before .before .before .before .before .before .before .pre .1)
 
 add-c : tie.Need-add-c Inv-loop μ-loop
 add-c c = search needs

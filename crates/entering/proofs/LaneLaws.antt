@@ -1,10 +1,9 @@
 -- Sets of carts by lane: how they are filled, cart by cart, and that they stand for the lanes.
 use Prim.Native.Nat.{ℕ, _+_, _<_}
 use mathlib.Core.Path.{_≡_, refl, sym, ap, _∙_}
-use mathlib.Core.Bool.{Bool, true, false, _||_, or-false, or-true}
+use mathlib.Core.Bool.{Bool, true}
 use mathlib.Core.List.{List}
-use native.Mathlib.Decide.{ℕ-discrete, decLt}
-use native.Mathlib.Numerals.{add-one}
+use native.Mathlib.Decide.{ℕ-discrete}
 use native.Mathlib.Omega.{arith}
 use lib.ListN.{length, getD, set, replicate}
 use lib.Seq.{getD-set-same, getD-set-other}
@@ -14,27 +13,9 @@ use Rattle.words.specs.Lists.{entries}
 use Rattle.words.proofs.Entries.{at-entry, zeros-are, put-entry}
 use Rattle.sets.specs.Member.{has, With}
 use Rattle.sets.specs.Counting.{setBelow}
-use Rattle.sets.proofs.Laws.{has-above, has-same}
-use Rattle.sets.proofs.Counting.{set-fits, has-set}
+use Rattle.sets.proofs.Counting.{has-set}
 use Rattle.entering.specs.Lanes.{onLane, lanesOf, LaneSets}
-
--- ---- a set of one number more
-
-module _ (n : ℕ) (test : ℕ → Bool) where
-  set-with : (more : ℕ) → test n ≡ true → With (setBelow n test) n more → setBelow (n + 1) test ≡ more
-  set-with more holds with = has-same (setBelow (n + 1) test) more (λ d. go d (decLt d n) (ℕ-discrete d n) ∙ sym (with d))
-    where
-      go : (d : ℕ) → Dec (d < n) → Dec (d ≡ n) → has (setBelow (n + 1) test) d ≡ (has (setBelow n test) d || eqb d n)
-      go d (yes lower) _ =
-          has-set (n + 1) test d (omega arith) ∙ sym (or-false (test d)) ∙ rw (has-set n test d lower, ne-eqb d n (λ e. omega (arith, e)))
-      go d (no _) (yes e) = rw (e, has-set (n + 1) test n (omega arith), holds, eq-eqb n n refl) (sym (or-true (has (setBelow n test) n)))
-      go d (no m) (no o) =
-          has-above (n + 1) _ d (set-fits (n + 1) test) (omega (arith, m, o))
-          ∙ rw (has-above n _ d (set-fits n test) (omega (arith, m)), ne-eqb d n o)
-
-  set-as-before : test n ≡ false → setBelow (n + 1) test ≡ setBelow n test
-  unfolding setBelow
-  set-as-before fails = rw (add-one n, fails) (omega arith)
+use Rattle.entering.proofs.SetLaws.{set-with, set-as-before}
 
 -- ---- every lane's set
 

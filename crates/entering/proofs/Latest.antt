@@ -1,19 +1,19 @@
 -- The latest over a set: the lowest member taken first, and then the rest; or the carts of the same lane first, and then the others.
 use Prim.Native.Nat.{ℕ, zero, suc, _+_, _≤_, _<_, max}
 use mathlib.Core.Path.{_≡_, refl, sym, ap, _∙_}
-use mathlib.Core.Bool.{Bool, true, false, not, _&&_, and-true, and-false}
+use mathlib.Core.Bool.{Bool, true, false, not, _&&_}
 use mathlib.Core.List.{List}
 use native.Mathlib.Decide.{ℕ-discrete}
 use native.Mathlib.Nat.{le-refl}
 use native.Mathlib.Omega.{arith}
 use lib.ListN.{getD}
-use borrow.Author.Tests.{eq-eqb, ne-eqb}
 use Rattle.words.specs.Lists.{pick}
 use Rattle.sets.specs.Member.{has, Less, Lowest, Rest}
 use Rattle.sets.proofs.Laws.{has-none}
 use Rattle.times.specs.Times.{largest}
 use Rattle.times.proofs.Largest.{largest-most, largest-least, largest-same}
 use Rattle.entering.specs.Times.{clearBy, clearOf, latest, Enterable}
+use Rattle.entering.proofs.SetLaws.{without-gone, without-other}
 
 module _ (rule : ℕ → ℕ) where
   -- the members' times
@@ -36,16 +36,10 @@ module _ (rule : ℕ → ℕ) where
 
   -- what is left has the same times, but for the lowest member's
   rest-other : (members rest d e : ℕ) → Lowest members d → Rest members rest → ¬ (e ≡ d) → of rest e ≡ of members e
-  rest-other members rest d e low others n = ap (λ (b : Bool). pick b (rule e) 0) same
-    where
-      same : has rest e ≡ has members e
-      same = others .others d low e ∙ ap (λ (b : Bool). has members e && not b) (ne-eqb e d n) ∙ and-true (has members e)
+  rest-other members rest d e low others n = ap (λ (b : Bool). pick b (rule e) 0) (without-other members d rest (others .others d low) e n)
 
   rest-lowest : (members rest d : ℕ) → Lowest members d → Rest members rest → of rest d ≡ 0
-  rest-lowest members rest d low others = ap (λ (b : Bool). pick b (rule d) 0) gone
-    where
-      gone : has rest d ≡ false
-      gone = others .others d low d ∙ ap (λ (b : Bool). has members d && not b) (eq-eqb d d refl) ∙ and-false (has members d)
+  rest-lowest members rest d low others = ap (λ (b : Bool). pick b (rule d) 0) (without-gone members d rest (others .others d low))
 
   pub latest-turn : (members rest d time : ℕ) → d < 16 → Lowest members d → Rest members rest
       → latest rule members time ≡ latest rule rest (max time (rule d))

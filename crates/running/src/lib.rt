@@ -1,13 +1,14 @@
 use entering::lanes;
 use one_move::make_move;
 use one_move::may_move;
+use sets::carts;
 ghost use mathlib.Core.Path.{_≡_};
 ghost use Prim.Native.Nat.{_<_};
 ghost use lib.ListN.{length, replicate};
 ghost use Rattle.crossing.specs.Tables.{crossingOf, givenOf};
 ghost use Rattle.crossing.specs.Sound.{Sound};
 ghost use Rattle.entering.specs.Lanes.{LaneSets};
-ghost use Rattle.running.specs.Rounds.{Underway, Advanced, Swept};
+ghost use Rattle.running.specs.Rounds.{presentSet, InsideSet, Underway, Advanced, Swept};
 ghost use Rattle.running.specs.Settled.{SettlesAs};
 
 // Cart c moves on as far as it may, and is stored in the table for each of its moves; answers how many moves are made in all.
@@ -56,7 +57,28 @@ fn advance<'a>(
     made
 }
 
-// Every cart in turn moves on as far as it may; answers how many moves are made in all.
+// The set of the carts that have steps.
+fn present(steps: &[u8; 16]) -> u16
+    ensures { λ r. ⌜ r ≡ presentSet (now (steps .entry)) 16 ⌝ }
+{
+    let mut set = 0;
+    let mut c = 0;
+    while c < 16 {
+        if 0 < steps[c] {
+            set = carts::with(set, c);
+        }
+        c += 1;
+    }
+    set
+}
+
+// How many moves are made in all after a turn of the carts, and which carts are asked in the next.
+pub struct Turn {
+    pub made: usize,
+    pub going: u16,
+}
+
+// Every cart that is not out moves on in turn as far as it may.
 fn sweep<'a>(
     steps: &'a [u8; 16],
     zone: &'a [u8; 128],
@@ -72,14 +94,18 @@ fn sweep<'a>(
     leave: &mut [u32; 384],
     enter: &mut [u32; 128],
     order: &mut [u8; 144],
+    inside: u16,
     before: usize,
-) -> usize
-    requires { ⌜ Underway (crossingOf (now steps) (now zone) (now ahead)) (givenOf (now same) (now arrival) (now passing) (now travel) (now follow) (now cross)) (now at) (now left) (now leave) (now enter) (now order) before × LaneSets (now same) ⌝ }
-    ensures { λ r. ⌜ Swept (crossingOf (now (steps .entry)) (now (zone .entry)) (now (ahead .entry))) (givenOf (now (same .entry)) (now (arrival .entry)) (now (passing .entry)) (now (travel .entry)) (now (follow .entry)) (now (cross .entry))) (now (at .exit)) (now (left .exit)) (now (leave .exit)) (now (enter .exit)) (now (order .exit)) before r ⌝ }
+) -> Turn
+    requires { ⌜ Underway (crossingOf (now steps) (now zone) (now ahead)) (givenOf (now same) (now arrival) (now passing) (now travel) (now follow) (now cross)) (now at) (now left) (now leave) (now enter) (now order) before × InsideSet (crossingOf (now steps) (now zone) (now ahead)) (now at) inside × LaneSets (now same) ⌝ }
+    ensures { λ r. ⌜ Swept (crossingOf (now (steps .entry)) (now (zone .entry)) (now (ahead .entry))) (givenOf (now (same .entry)) (now (arrival .entry)) (now (passing .entry)) (now (travel .entry)) (now (follow .entry)) (now (cross .entry))) (now (at .exit)) (now (left .exit)) (now (leave .exit)) (now (enter .exit)) (now (order .exit)) before (r .made) (r .going) ⌝ }
 {
     let mut made = before;
-    let mut c = 0;
-    while c < 16 {
+    let mut turn = inside;
+    let mut still = inside;
+    while 0 < turn {
+        let c = carts::lowest(turn);
+        turn = carts::rest(turn);
         made = advance(
             steps,
             zone,
@@ -98,9 +124,14 @@ fn sweep<'a>(
             c,
             made,
         );
-        c += 1;
+        if steps[c] < at[c] {
+            still = carts::without(still, c);
+        }
     }
-    made
+    if made == before {
+        return Turn { made, going: 0 };
+    }
+    Turn { made, going: still }
 }
 
 // Where the carts stand when no permitted move is left, which have left each zone, and how many moves they made.
@@ -132,9 +163,9 @@ pub fn settle<'a>(
     let mut left = [0u16; 24];
     let mut leave = [0u32; 384];
     let mut made = 0;
-    let mut moved = 1;
-    while 0 < moved {
-        let total = sweep(
+    let mut going = present(steps);
+    while 0 < going {
+        let turn = sweep(
             steps,
             zone,
             ahead,
@@ -149,10 +180,11 @@ pub fn settle<'a>(
             &mut leave,
             enter,
             order,
+            going,
             made,
         );
-        moved = total - made;
-        made = total;
+        made = turn.made;
+        going = turn.going;
     }
     Settled { at, left, made }
 }

@@ -1,17 +1,19 @@
--- The latest over a set: the lowest member taken first, and then the rest.
-use Prim.Native.Nat.{ℕ, _+_, _≤_, _<_, max}
-use mathlib.Core.Path.{_≡_, refl, ap, _∙_}
-use mathlib.Core.Bool.{Bool, false, not, _&&_, and-true, and-false}
+-- The latest over a set: the lowest member taken first, and then the rest; or the carts of the same lane first, and then the others.
+use Prim.Native.Nat.{ℕ, zero, suc, _+_, _≤_, _<_, max}
+use mathlib.Core.Path.{_≡_, refl, sym, ap, _∙_}
+use mathlib.Core.Bool.{Bool, true, false, not, _&&_}
+use mathlib.Core.List.{List}
 use native.Mathlib.Decide.{ℕ-discrete}
 use native.Mathlib.Nat.{le-refl}
 use native.Mathlib.Omega.{arith}
-use borrow.Author.Tests.{eq-eqb, ne-eqb}
+use lib.ListN.{getD}
 use Rattle.words.specs.Lists.{pick}
-use Rattle.sets.specs.Member.{has, Lowest, Rest}
+use Rattle.sets.specs.Member.{has, Less, Lowest, Rest}
 use Rattle.sets.proofs.Laws.{has-none}
 use Rattle.times.specs.Times.{largest}
-use Rattle.times.proofs.Largest.{largest-most, largest-least}
-use Rattle.entering.specs.Times.{latest}
+use Rattle.times.proofs.Largest.{largest-most, largest-least, largest-same}
+use Rattle.entering.specs.Times.{clearBy, clearOf, latest, Enterable}
+use Rattle.entering.proofs.SetLaws.{without-gone, without-other}
 
 module _ (rule : ℕ → ℕ) where
   -- the members' times
@@ -34,16 +36,10 @@ module _ (rule : ℕ → ℕ) where
 
   -- what is left has the same times, but for the lowest member's
   rest-other : (members rest d e : ℕ) → Lowest members d → Rest members rest → ¬ (e ≡ d) → of rest e ≡ of members e
-  rest-other members rest d e low others n = ap (λ (b : Bool). pick b (rule e) 0) same
-    where
-      same : has rest e ≡ has members e
-      same = others .others d low e ∙ ap (λ (b : Bool). has members e && not b) (ne-eqb e d n) ∙ and-true (has members e)
+  rest-other members rest d e low others n = ap (λ (b : Bool). pick b (rule e) 0) (without-other members d rest (others .others d low) e n)
 
   rest-lowest : (members rest d : ℕ) → Lowest members d → Rest members rest → of rest d ≡ 0
-  rest-lowest members rest d low others = ap (λ (b : Bool). pick b (rule d) 0) gone
-    where
-      gone : has rest d ≡ false
-      gone = others .others d low d ∙ ap (λ (b : Bool). has members d && not b) (eq-eqb d d refl) ∙ and-false (has members d)
+  rest-lowest members rest d low others = ap (λ (b : Bool). pick b (rule d) 0) (without-gone members d rest (others .others d low))
 
   pub latest-turn : (members rest d time : ℕ) → d < 16 → Lowest members d → Rest members rest
       → latest rule members time ≡ latest rule rest (max time (rule d))
@@ -61,3 +57,49 @@ module _ (rule : ℕ → ℕ) where
       down : (e : ℕ) → e < 16 → Dec (e ≡ d) → of members e ≤ max (rule d) (largest (of rest) 16)
       down e below (yes q) = rw (q, low .member) (omega arith)
       down e below (no n) = omega (arith, rest-other members rest d e low others n, largest-least (of rest) 16 e below)
+
+-- ---- in two parts
+
+largest-both : (rule other : ℕ → ℕ) (n : ℕ) → largest (λ d. max (rule d) (other d)) n ≡ max (largest rule n) (largest other n)
+unfolding largest
+largest-both rule other zero = refl
+largest-both rule other (suc n) = omega (arith, largest-both rule other n)
+
+-- a member is in one part or in the other
+part-of : (member mine : Bool) (time near far : ℕ) → (mine ≡ true → time ≡ near) → (mine ≡ false → time ≡ far)
+    → pick member time 0 ≡ max (pick (member && not (member && not mine)) near 0) (pick (member && not mine) far 0)
+part-of true true time near far is-near is-far = omega (arith, is-near refl)
+part-of true false time near far is-near is-far = omega (arith, is-far refl)
+part-of false mine time near far is-near is-far = refl
+
+-- the latest over the carts of the same lane, by the follow gap, and then over the others, by the cross gap
+module _ (zone same follow cross leave : List ℕ) (x c : ℕ) (enterable : Enterable zone same follow cross leave x c) where
+  abbrev z : ℕ
+  z = getD zone x 0
+
+  abbrev near : ℕ → ℕ
+  near = clearBy leave z (getD follow z 0)
+
+  abbrev far : ℕ → ℕ
+  far = clearBy leave z (getD cross z 0)
+
+  gap-is : (d : ℕ) → d < 16 → (b : Bool) → has (getD same c 0) d ≡ b
+      → clearOf same follow cross leave z c d ≡ clearBy leave z (pick b (getD follow z 0) (getD cross z 0)) d
+  gap-is d l b e =
+      ap (λ (t : Bool). clearBy leave z (pick t (getD follow z 0) (getD cross z 0)) d)
+      (sym (enterable .lane-sets c d (enterable .cart-16) l) ∙ e)
+
+  pub latest-parts : (members others mine ready clear time : ℕ) → Less members (getD same c 0) others → Less members others mine
+      → clear ≡ latest near mine ready → time ≡ latest far others clear → time ≡ latest (clearOf same follow cross leave z c) members ready
+  unfolding latest
+  latest-parts members others mine ready clear time are-others are-mine clear-is time-is =
+      omega (
+        arith,
+        largest-same (of (clearOf same follow cross leave z c) members) (λ d. max (of near mine d) (of far others d)) 16 parted,
+        largest-both (of near mine) (of far others) 16,
+      )
+    where
+      parted : (d : ℕ) → d < 16 → of (clearOf same follow cross leave z c) members d ≡ max (of near mine d) (of far others d)
+      parted d l =
+          rw (are-mine d, are-others d)
+          (part-of (has members d) (has (getD same c 0) d) (clearOf same follow cross leave z c d) (near d) (far d) (gap-is d l true) (gap-is d l false))

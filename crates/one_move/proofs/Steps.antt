@@ -18,7 +18,8 @@ use Rattle.times.proofs.Largest.{largest-same}
 use Rattle.crossing.specs.Tables.{crossingOf, givenOf}
 use Rattle.crossing.proofs.Tables.{routes-16, steps-is, zone-is, before-is}
 use Rattle.crossing.proofs.Permitted.{permitted-within}
-use Rattle.entering.specs.Times.{timesOf, clearOf, latest, AtMost}
+use Rattle.entering.specs.Lanes.{LaneSets}
+use Rattle.entering.specs.Times.{timesOf, clearOf, latest, Enterable}
 use Rattle.one_move.specs.Running.{Standing, ZoneLeft, Running, HasMoved}
 use Rattle.one_move.proofs.Moving.{running-first, running-next, running-out}
 
@@ -31,14 +32,14 @@ running-standing X G at left leave enter run = record {
   left-is = run .left-is;
 }
 
-module _ (stepTable zoneTable aheadTable lane arrival passing travel follow cross at left leave enter : List ℕ)
-    (run : Running (crossingOf stepTable zoneTable aheadTable) (givenOf lane arrival passing travel follow cross) at left leave enter)
+module _ (stepTable zoneTable aheadTable same arrival passing travel follow cross at left leave enter : List ℕ)
+    (run : Running (crossingOf stepTable zoneTable aheadTable) (givenOf same arrival passing travel follow cross) at left leave enter)
     (c : ℕ) (l : c < 16) (m : Permitted (system (crossingOf stepTable zoneTable aheadTable)) at c) where
   abbrev X : Crossing
   X = crossingOf stepTable zoneTable aheadTable
 
   abbrev G : Given
-  G = givenOf lane arrival passing travel follow cross
+  G = givenOf same arrival passing travel follow cross
 
   abbrev p : ℕ
   p = pos at c
@@ -67,38 +68,47 @@ module _ (stepTable zoneTable aheadTable lane arrival passing travel follow cros
       let inside : j < steps X c = omega (arith, counted) in
       (run .sound .ranged .passing-most c j inside, run .sound .ranged .travel-most c j inside)
 
-  pub gaps-most : AtMost 60000 follow × AtMost 60000 cross
+  -- what entering the zone of step j asks
+  enterable : LaneSets same → (x j : ℕ) → x ≡ 8 * c + j → j < getD stepTable c 0 → Enterable zoneTable same follow cross leave x c
   unfolding givenOf
-  gaps-most = (run .sound .ranged .follow-most, run .sound .ranged .cross-most)
+  enterable lane-sets x j x-is h = record {
+    step-128 = omega (arith, within);
+    cart-16 = l;
+    zone-24 = rw x-is (zone-few j h);
+    lane-sets = lane-sets;
+    follow-most = run .sound .ranged .follow-most;
+    cross-most = run .sound .ranged .cross-most;
+    leave-most = run .leave-most;
+  }
 
   -- ---- entering
 
   -- the latest over the set ahead is the entering time
   latest-here : (own : ℕ) → p < steps X c → own ≡ ready G (timesOf enter) c p
-      → latest (clearOf lane follow cross leave (zone X c p) c) (getD aheadTable (8 * c + p) 0) own ≡ entering X G (timesOf enter) c p
+      → latest (clearOf same follow cross leave (zone X c p) c) (getD aheadTable (8 * c + p) 0) own ≡ entering X G (timesOf enter) c p
   unfolding latest entering givenOf
   latest-here own below own-is =
       rw (own-is, routes-16 stepTable zoneTable aheadTable)
       (ap (λ (k : ℕ). max (ready G (timesOf enter) c p) k) (largest-same _ _ 16 (λ d _. each d)))
     where
       behind : (d : ℕ) (b : Bool) → X .before (zone X c p) d c ≡ b
-          → pick b (clearOf lane follow cross leave (zone X c p) c d) 0 ≡ pick b (clear X G (timesOf enter) c p d) 0
+          → pick b (clearOf same follow cross leave (zone X c p) c d) 0 ≡ pick b (clear X G (timesOf enter) c p d) 0
       behind d true e =
           let left-it = permitted-by-rule X (run .sound .only) at c .0 m .into below d e in
           ap (λ (k : ℕ). k + gap G (zone X c p) d c) (run .leave-is (zone X c p) d left-it)
       behind d false e = refl
 
-      each : (d : ℕ) → pick (has (getD aheadTable (8 * c + p) 0) d) (clearOf lane follow cross leave (zone X c p) c d) 0
+      each : (d : ℕ) → pick (has (getD aheadTable (8 * c + p) 0) d) (clearOf same follow cross leave (zone X c p) c d) 0
           ≡ pick (X .before (zone X c p) d c) (clear X G (timesOf enter) c p d) 0
       each d =
-          ap (λ (b : Bool). pick b (clearOf lane follow cross leave (zone X c p) c d) 0)
+          ap (λ (b : Bool). pick b (clearOf same follow cross leave (zone X c p) c d) 0)
           (sym (before-is stepTable zoneTable aheadTable c l (run .sound .once) p d (zone X c p) below refl))
           ∙ behind d (X .before (zone X c p) d c) refl
 
   latest-entering : (own : ℕ) → p < steps X c → own ≡ ready G (timesOf enter) c p
-      → latest (clearOf lane follow cross leave (getD zoneTable (8 * c + p) 0) c) (getD aheadTable (8 * c + p) 0) own ≡ entering X G (timesOf enter) c p
+      → latest (clearOf same follow cross leave (getD zoneTable (8 * c + p) 0) c) (getD aheadTable (8 * c + p) 0) own ≡ entering X G (timesOf enter) c p
   latest-entering own below own-is =
-      sym (ap (λ (z : ℕ). latest (clearOf lane follow cross leave z c) (getD aheadTable (8 * c + p) 0) own) (zone-at p below))
+      sym (ap (λ (z : ℕ). latest (clearOf same follow cross leave z c) (getD aheadTable (8 * c + p) 0) own) (zone-at p below))
       ∙ latest-here own below own-is
 
   moves : set at c (p + 1) ≡ moved at c
@@ -110,11 +120,11 @@ module _ (stepTable zoneTable aheadTable lane arrival passing travel follow cros
     first : 8 * c + p ≡ 8 * c
     first = omega arith
 
-    pub first-zone : getD zoneTable (8 * c) 0 < 24
-    first-zone = rw first at (zone-few p (omega (arith, within)))
+    pub first-enterable : LaneSets same → Enterable zoneTable same follow cross leave (8 * c) c
+    first-enterable lane-sets = enterable lane-sets (8 * c) p (sym first) (omega (arith, within))
 
     pub first-moved : (time : ℕ) (entered : List ℕ)
-        → time ≡ latest (clearOf lane follow cross leave (getD zoneTable (8 * c) 0) c) (getD aheadTable (8 * c) 0) (getD arrival c 0)
+        → time ≡ latest (clearOf same follow cross leave (getD zoneTable (8 * c) 0) c) (getD aheadTable (8 * c) 0) (getD arrival c 0)
         → entered ≡ set enter (8 * c) time → HasMoved X G at (set at c (p + 1)) left leave entered c
     unfolding givenOf
     first-moved time entered time-is stored = record {
@@ -146,12 +156,12 @@ module _ (stepTable zoneTable aheadTable lane arrival passing travel follow cros
     pub left-times : (getD enter (8 * c + j) 0 ≤ 18840000) × (getD passing (8 * c + j) 0 ≤ 60000) × (getD travel (8 * c + j) 0 ≤ 60000)
     left-times = let (over, on) = step-times j (omega (arith, within)) in (run .enter-most (8 * c + j), over, on)
 
-    pub next-zone : p < getD stepTable c 0 → getD zoneTable (8 * c + j + 1) 0 < 24
-    next-zone h = rw next-index (zone-few p h)
+    pub next-enterable : LaneSets same → p < getD stepTable c 0 → Enterable zoneTable same follow cross leave (8 * c + j + 1) c
+    next-enterable lane-sets h = enterable lane-sets (8 * c + j + 1) p next-index h
 
     -- into the next
     pub next-moved : (time : ℕ) (more after entered : List ℕ) → p < getD stepTable c 0
-        → time ≡ latest (clearOf lane follow cross leave (getD zoneTable (8 * c + j + 1) 0) c) (getD aheadTable (8 * c + j + 1) 0)
+        → time ≡ latest (clearOf same follow cross leave (getD zoneTable (8 * c + j + 1) 0) c) (getD aheadTable (8 * c + j + 1) 0)
         (getD enter (8 * c + j) 0 + getD passing (8 * c + j) 0 + getD travel (8 * c + j) 0)
         → entered ≡ set enter (8 * c + j + 1) time
         → ZoneLeft left leave more after (getD zoneTable (8 * c + j) 0) c (time - getD travel (8 * c + j) 0)

@@ -8,6 +8,7 @@ ghost use lib.ListN.{length};
 ghost use Rattle.moves.specs.Moves.{Permitted};
 ghost use Rattle.routes.specs.Moves.{system};
 ghost use Rattle.crossing.specs.Tables.{crossingOf, givenOf};
+ghost use Rattle.entering.specs.Lanes.{LaneSets};
 ghost use Rattle.one_move.specs.Running.{ZoneLeft, Standing, Running, HasMoved};
 
 // Cart c leaves zone z at a time.
@@ -43,11 +44,12 @@ pub fn may_move<'a>(
 }
 
 // One permitted move of cart c: from the lane into its first zone, from a zone into the next, or out of the last.
+// `same` has for each cart the set of the carts on its lane, which stands for the lane.
 pub fn make_move<'a>(
     steps: &'a [u8; 16],
     zone: &'a [u8; 128],
     ahead: &'a [u16; 128],
-    lane: &'a [u8; 16],
+    same: &[u16; 16],
     arrival: &'a [u32; 16],
     passing: &'a [u16; 128],
     travel: &'a [u16; 128],
@@ -59,8 +61,8 @@ pub fn make_move<'a>(
     enter: &mut [u32; 128],
     c: usize,
 )
-    requires { ⌜ Running (crossingOf (now steps) (now zone) (now ahead)) (givenOf (now lane) (now arrival) (now passing) (now travel) (now follow) (now cross)) (now at) (now left) (now leave) (now enter) × (c < 16) × Permitted (system (crossingOf (now steps) (now zone) (now ahead))) (now at) c ⌝ }
-    ensures { λ r. ⌜ HasMoved (crossingOf (now (steps .entry)) (now (zone .entry)) (now (ahead .entry))) (givenOf (now (lane .entry)) (now (arrival .entry)) (now (passing .entry)) (now (travel .entry)) (now (follow .entry)) (now (cross .entry))) (now (at .entry)) (now (at .exit)) (now (left .exit)) (now (leave .exit)) (now (enter .exit)) c ⌝ }
+    requires { ⌜ Running (crossingOf (now steps) (now zone) (now ahead)) (givenOf (now same) (now arrival) (now passing) (now travel) (now follow) (now cross)) (now at) (now left) (now leave) (now enter) × (c < 16) × Permitted (system (crossingOf (now steps) (now zone) (now ahead))) (now at) c × LaneSets (now same) ⌝ }
+    ensures { λ r. ⌜ HasMoved (crossingOf (now (steps .entry)) (now (zone .entry)) (now (ahead .entry))) (givenOf (now (same .entry)) (now (arrival .entry)) (now (passing .entry)) (now (travel .entry)) (now (follow .entry)) (now (cross .entry))) (now (at .entry)) (now (at .exit)) (now (left .exit)) (now (leave .exit)) (now (enter .exit)) c ⌝ }
 {
     let p = at[c] as usize;
     at[c] = at[c] + 1;
@@ -68,7 +70,7 @@ pub fn make_move<'a>(
         enter_zone(
             zone,
             ahead,
-            lane,
+            same,
             follow,
             cross,
             leave,
@@ -87,7 +89,7 @@ pub fn make_move<'a>(
         let time = enter_zone(
             zone,
             ahead,
-            lane,
+            same,
             follow,
             cross,
             leave,

@@ -1,15 +1,34 @@
--- Rounds of moves: one cart's, as far as it may go, and a turn of all carts.
-use Prim.Native.Nat.{ℕ, _≤_}
+-- Rounds of moves: one cart's, as far as it may go, and a turn of the carts that are not out.
+use Prim.Native.Nat.{ℕ, _≤_, _<_}
 use mathlib.Core.Path.{_≡_}
+use mathlib.Core.Logic.{_↔_}
+use mathlib.Core.Bool.{true}
 use mathlib.Core.List.{List}
-use lib.ListN.{length, take}
-use Rattle.moves.specs.System.{start, sum}
-use Rattle.moves.specs.Moves.{Permitted}
+use lib.ListN.{length, getD, take}
+use lib.Dec.{ltb}
+use Rattle.sets.specs.Member.{has}
+use Rattle.sets.specs.Counting.{setBelow}
+use Rattle.moves.specs.System.{pos, start, sum}
+use Rattle.moves.specs.Moves.{NotOut, Permitted}
 use Rattle.moves.specs.Runs.{after, Run, Stuck}
 use Rattle.routes.specs.Crossing.{Crossing}
 use Rattle.routes.specs.Moves.{system}
 use Rattle.times.specs.Times.{Given}
 use Rattle.one_move.specs.Running.{Running}
+
+-- the set of those of the first n carts that have steps
+unfoldable pub presentSet : List ℕ → ℕ → ℕ
+presentSet steps n = setBelow n (λ c. ltb 0 (getD steps c 0))
+
+module _ (X : Crossing) where
+  -- `inside` is the set of the carts that are not out
+  abbrev pub InsideSet : List ℕ → ℕ → Type 0
+  InsideSet at inside = (c : ℕ) → (has inside c ≡ true) ↔ NotOut (system X) at c
+
+  -- `going` are the carts that are asked in the next turn: none where no move is left, else those that are not out
+  pub record Going (at : List ℕ) (going : ℕ) : Type 0 where
+    pub none-left : going ≡ 0 → Stuck (system X) at
+    pub inside : 0 < going → InsideSet at going
 
 module _ (X : Crossing) (G : Given) where
   -- the carts are under way after `made` moves, and the first `made` entries of `order` are the carts that made them, first to last
@@ -20,19 +39,21 @@ module _ (X : Crossing) (G : Given) where
     pub is-run : Run (system X) (start (system X)) (take made order)
     pub run-ends : after (start (system X)) (take made order) ≡ at
 
-  -- a cart has moved on from `old`, where `before` moves were made; now `made` are
-  pub record Onward (old at left leave enter order : List ℕ) (before made : ℕ) : Type 0 where
+  -- cart c alone has moved on from `old`, where `before` moves were made; now `made` are
+  pub record Onward (old at left leave enter order : List ℕ) (c before made : ℕ) : Type 0 where
     pub underway : Underway at left leave enter order made
     pub no-fewer : before ≤ made
     pub none-made : made ≡ before → at ≡ old
+    pub others : (d : ℕ) → ¬ (d ≡ c) → pos at d ≡ pos old d
 
   -- cart c has moved on as far as it may go
   pub record Advanced (old at left leave enter order : List ℕ) (c before made : ℕ) : Type 0 where
-    pub onward : Onward old at left leave enter order before made
+    pub onward : Onward old at left leave enter order c before made
     pub held-or-out : ¬ (Permitted (system X) at c)
 
-  -- every cart has moved on in turn, where `before` moves were made; now `made` are
-  pub record Swept (at left leave enter order : List ℕ) (before made : ℕ) : Type 0 where
+  -- every cart that was not out has moved on in turn, where `before` moves were made; now `made` are
+  pub record Swept (at left leave enter order : List ℕ) (before made going : ℕ) : Type 0 where
     pub underway : Underway at left leave enter order made
     pub no-fewer : before ≤ made
-    pub none-left : made ≡ before → Stuck (system X) at
+    pub some-made : 0 < going → before < made
+    pub going-is : Going X at going

@@ -1,11 +1,14 @@
+use entering::lanes;
 use one_move::make_move;
 use one_move::may_move;
+use sets::carts;
 ghost use mathlib.Core.Path.{_≡_};
 ghost use Prim.Native.Nat.{_<_};
 ghost use lib.ListN.{length, replicate};
 ghost use Rattle.crossing.specs.Tables.{crossingOf, givenOf};
 ghost use Rattle.crossing.specs.Sound.{Sound};
-ghost use Rattle.running.specs.Rounds.{Underway, Advanced, Swept};
+ghost use Rattle.entering.specs.Lanes.{LaneSets};
+ghost use Rattle.running.specs.Rounds.{presentSet, InsideSet, Underway, Advanced, Swept};
 ghost use Rattle.running.specs.Settled.{SettlesAs};
 
 // Cart c moves on as far as it may, and is stored in the table for each of its moves; answers how many moves are made in all.
@@ -13,7 +16,7 @@ fn advance<'a>(
     steps: &'a [u8; 16],
     zone: &'a [u8; 128],
     ahead: &'a [u16; 128],
-    lane: &'a [u8; 16],
+    same: &[u16; 16],
     arrival: &'a [u32; 16],
     passing: &'a [u16; 128],
     travel: &'a [u16; 128],
@@ -27,8 +30,8 @@ fn advance<'a>(
     c: usize,
     before: usize,
 ) -> usize
-    requires { ⌜ Underway (crossingOf (now steps) (now zone) (now ahead)) (givenOf (now lane) (now arrival) (now passing) (now travel) (now follow) (now cross)) (now at) (now left) (now leave) (now enter) (now order) before × (c < 16) ⌝ }
-    ensures { λ r. ⌜ Advanced (crossingOf (now (steps .entry)) (now (zone .entry)) (now (ahead .entry))) (givenOf (now (lane .entry)) (now (arrival .entry)) (now (passing .entry)) (now (travel .entry)) (now (follow .entry)) (now (cross .entry))) (now (at .entry)) (now (at .exit)) (now (left .exit)) (now (leave .exit)) (now (enter .exit)) (now (order .exit)) c before r ⌝ }
+    requires { ⌜ Underway (crossingOf (now steps) (now zone) (now ahead)) (givenOf (now same) (now arrival) (now passing) (now travel) (now follow) (now cross)) (now at) (now left) (now leave) (now enter) (now order) before × (c < 16) × LaneSets (now same) ⌝ }
+    ensures { λ r. ⌜ Advanced (crossingOf (now (steps .entry)) (now (zone .entry)) (now (ahead .entry))) (givenOf (now (same .entry)) (now (arrival .entry)) (now (passing .entry)) (now (travel .entry)) (now (follow .entry)) (now (cross .entry))) (now (at .entry)) (now (at .exit)) (now (left .exit)) (now (leave .exit)) (now (enter .exit)) (now (order .exit)) c before r ⌝ }
 {
     let mut made = before;
     while may_move(steps, zone, ahead, at, left, c) {
@@ -37,7 +40,7 @@ fn advance<'a>(
             steps,
             zone,
             ahead,
-            lane,
+            same,
             arrival,
             passing,
             travel,
@@ -54,12 +57,33 @@ fn advance<'a>(
     made
 }
 
-// Every cart in turn moves on as far as it may; answers how many moves are made in all.
+// The set of the carts that have steps.
+fn present(steps: &[u8; 16]) -> u16
+    ensures { λ r. ⌜ r ≡ presentSet (now (steps .entry)) 16 ⌝ }
+{
+    let mut set = 0;
+    let mut c = 0;
+    while c < 16 {
+        if 0 < steps[c] {
+            set = carts::with(set, c);
+        }
+        c += 1;
+    }
+    set
+}
+
+// How many moves are made in all after a turn of the carts, and which carts are asked in the next.
+pub struct Turn {
+    pub made: usize,
+    pub going: u16,
+}
+
+// Every cart that is not out moves on in turn as far as it may.
 fn sweep<'a>(
     steps: &'a [u8; 16],
     zone: &'a [u8; 128],
     ahead: &'a [u16; 128],
-    lane: &'a [u8; 16],
+    same: &[u16; 16],
     arrival: &'a [u32; 16],
     passing: &'a [u16; 128],
     travel: &'a [u16; 128],
@@ -70,19 +94,23 @@ fn sweep<'a>(
     leave: &mut [u32; 384],
     enter: &mut [u32; 128],
     order: &mut [u8; 144],
+    inside: u16,
     before: usize,
-) -> usize
-    requires { ⌜ Underway (crossingOf (now steps) (now zone) (now ahead)) (givenOf (now lane) (now arrival) (now passing) (now travel) (now follow) (now cross)) (now at) (now left) (now leave) (now enter) (now order) before ⌝ }
-    ensures { λ r. ⌜ Swept (crossingOf (now (steps .entry)) (now (zone .entry)) (now (ahead .entry))) (givenOf (now (lane .entry)) (now (arrival .entry)) (now (passing .entry)) (now (travel .entry)) (now (follow .entry)) (now (cross .entry))) (now (at .exit)) (now (left .exit)) (now (leave .exit)) (now (enter .exit)) (now (order .exit)) before r ⌝ }
+) -> Turn
+    requires { ⌜ Underway (crossingOf (now steps) (now zone) (now ahead)) (givenOf (now same) (now arrival) (now passing) (now travel) (now follow) (now cross)) (now at) (now left) (now leave) (now enter) (now order) before × InsideSet (crossingOf (now steps) (now zone) (now ahead)) (now at) inside × LaneSets (now same) ⌝ }
+    ensures { λ r. ⌜ Swept (crossingOf (now (steps .entry)) (now (zone .entry)) (now (ahead .entry))) (givenOf (now (same .entry)) (now (arrival .entry)) (now (passing .entry)) (now (travel .entry)) (now (follow .entry)) (now (cross .entry))) (now (at .exit)) (now (left .exit)) (now (leave .exit)) (now (enter .exit)) (now (order .exit)) before (r .made) (r .going) ⌝ }
 {
     let mut made = before;
-    let mut c = 0;
-    while c < 16 {
+    let mut turn = inside;
+    let mut still = inside;
+    while 0 < turn {
+        let c = carts::lowest(turn);
+        turn = carts::rest(turn);
         made = advance(
             steps,
             zone,
             ahead,
-            lane,
+            same,
             arrival,
             passing,
             travel,
@@ -96,9 +124,14 @@ fn sweep<'a>(
             c,
             made,
         );
-        c += 1;
+        if steps[c] < at[c] {
+            still = carts::without(still, c);
+        }
     }
-    made
+    if made == before {
+        return Turn { made, going: 0 };
+    }
+    Turn { made, going: still }
 }
 
 // Where the carts stand when no permitted move is left, which have left each zone, and how many moves they made.
@@ -125,17 +158,18 @@ pub fn settle<'a>(
     requires { ⌜ Sound (crossingOf (now steps) (now zone) (now ahead)) (givenOf (now lane) (now arrival) (now passing) (now travel) (now follow) (now cross)) × (now enter ≡ replicate 128 0) × (length (now order) ≡ 144) ⌝ }
     ensures { λ r. ⌜ SettlesAs (crossingOf (now (steps .entry)) (now (zone .entry)) (now (ahead .entry))) (givenOf (now (lane .entry)) (now (arrival .entry)) (now (passing .entry)) (now (travel .entry)) (now (follow .entry)) (now (cross .entry))) (r .at) (r .left) (now (enter .exit)) (now (order .exit)) (r .made) ⌝ }
 {
+    let same = lanes(lane);
     let mut at = [0u8; 16];
     let mut left = [0u16; 24];
     let mut leave = [0u32; 384];
     let mut made = 0;
-    let mut moved = 1;
-    while 0 < moved {
-        let total = sweep(
+    let mut going = present(steps);
+    while 0 < going {
+        let turn = sweep(
             steps,
             zone,
             ahead,
-            lane,
+            &same,
             arrival,
             passing,
             travel,
@@ -146,10 +180,11 @@ pub fn settle<'a>(
             &mut leave,
             enter,
             order,
+            going,
             made,
         );
-        moved = total - made;
-        made = total;
+        made = turn.made;
+        going = turn.going;
     }
     Settled { at, left, made }
 }

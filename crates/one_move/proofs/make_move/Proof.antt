@@ -1,7 +1,7 @@
 -- Each way out is one kind of move, by the law for it.
 use native.Mathlib.Omega.{arith}
 use Rattle.entering.proofs.Latest.{latest-past}
-use Rattle.one_move.proofs.Steps.{within, gaps-most, first-zone, first-moved, left-zone, left-times, next-zone, next-moved, out-moved}
+use Rattle.one_move.proofs.Steps.{within, first-enterable, first-moved, left-zone, left-times, next-enterable, next-moved, out-moved}
 use borrow.Author.Needs.{needs}
 use Rattle.one_move.proofs.make_move.Statement.{statement}
 use Rattle.one_move.proofs.make_move.Tie as tie
@@ -31,7 +31,7 @@ element-copy-out-enter-zone : tie.Need-element-copy-out-enter-zone
 element-copy-out-enter-zone c = search needs
 
 enter-zone-requires : tie.Need-enter-zone-requires
-enter-zone-requires c κs = (omega (arith, c .before .before .before .before .before .before .pre .1), c .before .before .before .before .before .before .pre .1, first-zone _ _ _ _ _ _ _ _ _ _ _ _ _ (c .before .before .before .before .before .before .pre .0) _ (c .before .before .before .before .before .before .pre .1) (c .before .before .before .before .before .before .pre .2) (c .before .before .before .if1 .taken), gaps-most _ _ _ _ _ _ _ _ _ _ _ _ _ (c .before .before .before .before .before .before .pre .0) _ (c .before .before .before .before .before .before .pre .1) (c .before .before .before .before .before .before .pre .2) .0, gaps-most _ _ _ _ _ _ _ _ _ _ _ _ _ (c .before .before .before .before .before .before .pre .0) _ (c .before .before .before .before .before .before .pre .1) (c .before .before .before .before .before .before .pre .2) .1, c .before .before .before .before .before .before .pre .0 .leave-most)
+enter-zone-requires c κs = first-enterable _ _ _ _ _ _ _ _ _ _ _ _ _ (c .before .before .before .before .before .before .pre .0) _ (c .before .before .before .before .before .before .pre .1) (c .before .before .before .before .before .before .pre .2) (c .before .before .before .if1 .taken) (c .before .before .before .before .before .before .pre .3)
 
 returns : tie.Need-returns
 returns c = first-moved _ _ _ _ _ _ _ _ _ _ _ _ _ (c .before .before .before .before .before .before .before .pre .0) _ (c .before .before .before .before .before .before .before .pre .1) (c .before .before .before .before .before .before .before .pre .2) (c .before .before .before .before .if1 .taken) _ _ (c .enter-zone .ensures .0) (c .enter-zone .ensures .1)
@@ -91,7 +91,7 @@ add-enter-zone : tie.Need-add-enter-zone
 add-enter-zone c = omega (arith, within _ _ _ _ _ _ _ _ _ _ _ _ _ (c .before .before .before .before .before .before .before .before .before .before .before .pre .0) _ (c .before .before .before .before .before .before .before .before .before .before .before .pre .1) (c .before .before .before .before .before .before .before .before .before .before .before .pre .2), c .before .before .before .before .before .before .before .before .if1 .left, c .before .before .before .before .before .before .before .before .before .before .before .pre .1)
 
 enter-zone-requires-2 : tie.Need-enter-zone-requires-2
-enter-zone-requires-2 c κs = (omega (arith, within _ _ _ _ _ _ _ _ _ _ _ _ _ (c .before .before .before .before .before .before .before .before .before .before .before .pre .0) _ (c .before .before .before .before .before .before .before .before .before .before .before .pre .1) (c .before .before .before .before .before .before .before .before .before .before .before .pre .2), c .before .before .before .if2 .taken, c .before .before .before .before .before .before .before .before .before .before .before .pre .1), c .before .before .before .before .before .before .before .before .before .before .before .pre .1, next-zone _ _ _ _ _ _ _ _ _ _ _ _ _ (c .before .before .before .before .before .before .before .before .before .before .before .pre .0) _ (c .before .before .before .before .before .before .before .before .before .before .before .pre .1) (c .before .before .before .before .before .before .before .before .before .before .before .pre .2) (c .before .before .before .before .before .before .before .before .if1 .left) (c .before .before .before .if2 .taken), gaps-most _ _ _ _ _ _ _ _ _ _ _ _ _ (c .before .before .before .before .before .before .before .before .before .before .before .pre .0) _ (c .before .before .before .before .before .before .before .before .before .before .before .pre .1) (c .before .before .before .before .before .before .before .before .before .before .before .pre .2) .0, gaps-most _ _ _ _ _ _ _ _ _ _ _ _ _ (c .before .before .before .before .before .before .before .before .before .before .before .pre .0) _ (c .before .before .before .before .before .before .before .before .before .before .before .pre .1) (c .before .before .before .before .before .before .before .before .before .before .before .pre .2) .1, c .before .before .before .before .before .before .before .before .before .before .before .pre .0 .leave-most)
+enter-zone-requires-2 c κs = next-enterable _ _ _ _ _ _ _ _ _ _ _ _ _ (c .before .before .before .before .before .before .before .before .before .before .before .pre .0) _ (c .before .before .before .before .before .before .before .before .before .before .before .pre .1) (c .before .before .before .before .before .before .before .before .before .before .before .pre .2) (c .before .before .before .before .before .before .before .before .if1 .left) (c .before .before .before .before .before .before .before .before .before .before .before .pre .3) (c .before .before .before .if2 .taken)
 
 mul-leave-zone : tie.Need-mul-leave-zone
 mul-leave-zone c = omega (arith, within _ _ _ _ _ _ _ _ _ _ _ _ _ (c .before .before .before .before .before .before .before .before .before .before .before .before .before .before .pre .0) _ (c .before .before .before .before .before .before .before .before .before .before .before .before .before .before .pre .1) (c .before .before .before .before .before .before .before .before .before .before .before .before .before .before .pre .2), c .before .before .before .before .before .before .before .before .before .before .before .if1 .left, c .before .before .before .before .before .before .before .before .before .before .before .before .before .before .pre .1)

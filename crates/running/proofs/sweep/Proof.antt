@@ -1,37 +1,72 @@
--- The loop keeps that the carts passed have moved on, and may not move where no move was made.
-use Prim.Native.Nat.{_-_}
-use native.Mathlib.Omega.{arith}
+-- The loop keeps that the carts passed have moved on, and may not move where no move was made; and which carts are not out.
 use Rattle.crossing.specs.Tables.{crossingOf, givenOf}
-use Rattle.running.proofs.Rounds.{Sweeping, sweeping-start, sweeping-turn, sweeping-end}
+use Rattle.crossing.proofs.Tables.{steps-is}
+use Rattle.running.proofs.Turns.{Sweeping, sweeping-start, sweeping-out, sweeping-held, sweeping-none, sweeping-some}
 use borrow.Author.Needs.{needs}
 use Rattle.running.proofs.sweep.Statement.{statement}
 use Rattle.running.proofs.sweep.Tie as tie
 
 abbrev Inv-loop : tie.InvT-loop
-Inv-loop steps zone ahead lane arrival passing travel follow cross at₀ left₀ leave₀ enter₀ order₀ before made₀ c₀ at left leave enter order made c = Sweeping (crossingOf steps zone ahead) (givenOf lane arrival passing travel follow cross) at left leave enter order before made c
+Inv-loop steps zone ahead same arrival passing travel follow cross at₀ left₀ leave₀ enter₀ order₀ inside before made₀ turn₀ still₀ at left leave enter order made turn still = Sweeping (crossingOf steps zone ahead) (givenOf same arrival passing travel follow cross) at left leave enter order before made turn still
 
 abbrev μ-loop : tie.MeasureT-loop
-μ-loop steps zone ahead lane arrival passing travel follow cross at₀ left₀ leave₀ enter₀ order₀ before made₀ c₀ at left leave enter order made c = 16 - c
+μ-loop steps zone ahead same arrival passing travel follow cross at₀ left₀ leave₀ enter₀ order₀ inside before made₀ turn₀ still₀ at left leave enter order made turn still = turn
 
 loop-holds : tie.Need-loop-holds Inv-loop μ-loop
-loop-holds c = sweeping-start _ _ _ _ _ _ _ _ (c .pre)
+loop-holds c = sweeping-start _ _ _ _ _ _ _ _ _ (c .pre .0) (c .pre .1)
+
+lowest-requires : tie.Need-lowest-requires Inv-loop μ-loop
+lowest-requires c κs = search needs
+
+rest-requires : tie.Need-rest-requires Inv-loop μ-loop
+rest-requires c κs = search needs
 
 advance-requires : tie.Need-advance-requires Inv-loop μ-loop
-advance-requires c κs = (c .before .before .before .before .before .before .loop .inv .underway, omega (arith, c .before .before .before .before .before .loop-test .taken))
+advance-requires c κs = (c .before .before .before .before .before .before .before .before .loop .inv .underway, c .before .before .before .before .before .before .lowest .ensures .0, c .before .before .before .before .before .before .before .before .before .pre .2)
 
-add-c : tie.Need-add-c Inv-loop μ-loop
-add-c c = search needs
+element-copy-out-if1 : tie.Need-element-copy-out-if1 Inv-loop μ-loop
+element-copy-out-if1 c = search needs
+
+element-copy-out-if1-2 : tie.Need-element-copy-out-if1-2 Inv-loop μ-loop
+element-copy-out-if1-2 c = search needs
+
+without-requires : tie.Need-without-requires Inv-loop μ-loop
+without-requires c κs = search needs
 
 loop-less : tie.Need-loop-less Inv-loop μ-loop
-loop-less c = omega (arith, c .before .before .before .before .before .before .loop-test .taken)
+loop-less c = c .before .before .before .before .before .before .before .before .before .before .rest .ensures .smaller
 
 loop-again : tie.Need-loop-again Inv-loop μ-loop
-loop-again c = sweeping-turn _ _ _ _ _ _ _ _ _ _ (c .before .before .before .before .before .before .before .loop .inv) _ _ _ _ _ _ (c .advance .ensures)
+loop-again c = sweeping-out _ _ _ _ _ _ _ _ _ _ _ (c .before .before .before .before .before .before .before .before .before .before .before .before .before .loop .inv) _ _ (c .before .before .before .before .before .before .before .before .before .before .before .lowest .ensures .1) (c .before .before .before .before .before .before .before .before .before .before .rest .ensures) _ _ _ _ _ _ (c .before .before .before .before .advance .ensures) _ _ (steps-is _ _ _ _ (c .before .before .before .before .before .before .before .before .before .before .before .lowest .ensures .0)) (c .before .if1 .taken) (c .without .ensures)
+
+loop-less-2 : tie.Need-loop-less-2 Inv-loop μ-loop
+loop-less-2 c = c .before .before .before .before .before .before .before .before .before .rest .ensures .smaller
+
+loop-again-2 : tie.Need-loop-again-2 Inv-loop μ-loop
+loop-again-2 c = sweeping-held _ _ _ _ _ _ _ _ _ _ _ (c .before .before .before .before .before .before .before .before .before .before .before .before .loop .inv) _ _ (c .before .before .before .before .before .before .before .before .before .before .lowest .ensures .1) (c .before .before .before .before .before .before .before .before .before .rest .ensures) _ _ _ _ _ _ (c .before .before .before .advance .ensures) _ (steps-is _ _ _ _ (c .before .before .before .before .before .before .before .before .before .before .lowest .ensures .0)) (c .if1 .left)
 
 returns : tie.Need-returns Inv-loop μ-loop
-returns c = sweeping-end _ _ _ _ _ _ _ _ _ _ (c .before .loop .inv) (c .loop-test .left)
+returns c = sweeping-none _ _ _ _ _ _ _ _ _ _ _ (c .before .before .loop .inv) (c .before .loop-test .left) (c .if2 .taken)
+
+returns-2 : tie.Need-returns-2 Inv-loop μ-loop
+returns-2 c = sweeping-some _ _ _ _ _ _ _ _ _ _ _ (c .before .before .loop .inv) (c .before .loop-test .left) (c .if2 .left)
 
 pub sweep-spec : {M : Type 1} → statement M
 sweep-spec =
     tie.close
-    (tie.spec Inv-loop μ-loop loop-holds advance-requires add-c loop-less loop-again returns)
+    (tie.spec
+    Inv-loop
+    μ-loop
+    loop-holds
+    lowest-requires
+    rest-requires
+    advance-requires
+    element-copy-out-if1
+    element-copy-out-if1-2
+    without-requires
+    loop-less
+    loop-again
+    loop-less-2
+    loop-again-2
+    returns
+    returns-2)

@@ -1,0 +1,99 @@
+-- The set of the carts that are not out: those that have steps at the start; a cart that comes out is taken from it; with none in it no move is left.
+use Prim.Native.Nat.{ℕ, zero, suc, _+_, _≤_, _<_}
+use mathlib.Core.Path.{_≡_, refl, sym, ap, _∙_}
+use mathlib.Core.Logic.{_↔_}
+use mathlib.Core.Bool.{true, false≢true}
+use mathlib.Core.List.{List}
+use native.Mathlib.Decide.{ℕ-discrete}
+use native.Mathlib.Omega.{arith}
+use lib.ListN.{getD, replicate}
+use borrow.Author.Tests.{ltb-true, lt-ltb, le-ltb}
+use Rattle.sets.specs.Member.{has, With, Without}
+use Rattle.sets.specs.Counting.{setBelow}
+use Rattle.sets.proofs.Laws.{has-none, has-below}
+use Rattle.sets.proofs.Counting.{set-fits, has-set}
+use Rattle.moves.specs.System.{System, pos}
+use Rattle.moves.specs.Moves.{NotOut}
+use Rattle.moves.proofs.Positions.{zeros-pos}
+use Rattle.routes.specs.Crossing.{Crossing, steps}
+use Rattle.routes.specs.Moves.{movesOf, system}
+use Rattle.routes.proofs.Moves.{out-are, out-steps}
+use Rattle.crossing.specs.Tables.{crossingOf}
+use Rattle.crossing.proofs.Tables.{steps-is, step-below}
+use Rattle.entering.proofs.SetLaws.{without-gone, without-other, set-with, set-as-before}
+use Rattle.running.specs.Rounds.{presentSet, InsideSet, Going}
+
+moves-some : (k p : ℕ) → p < movesOf k → 0 < k
+moves-some zero p h = absurd (omega arith)
+moves-some (suc k) p h = omega arith
+
+-- ---- the carts that have steps
+
+module _ (stepTable : List ℕ) where
+  pub present-none : 0 ≡ presentSet stepTable 0
+  unfolding presentSet setBelow
+  present-none = refl
+
+  pub present-with : (c set more : ℕ) → 0 < getD stepTable c 0 → set ≡ presentSet stepTable c → With set c more → more ≡ presentSet stepTable (c + 1)
+  unfolding presentSet
+  present-with c set more some is with = sym (set-with c _ more (lt-ltb 0 (getD stepTable c 0) some) (rw is at with))
+
+  pub present-as-before : (c set : ℕ) → getD stepTable c 0 ≤ 0 → set ≡ presentSet stepTable c → set ≡ presentSet stepTable (c + 1)
+  unfolding presentSet
+  present-as-before c set none is = is ∙ sym (set-as-before c _ (le-ltb 0 (getD stepTable c 0) none))
+
+  module _ (zoneTable aheadTable : List ℕ) where
+    abbrev X : Crossing
+    X = crossingOf stepTable zoneTable aheadTable
+
+    -- are those that are not out at the start
+    pub present-inside : InsideSet X (replicate 16 0) (presentSet stepTable 16)
+    unfolding presentSet
+    present-inside c = (
+      λ e.
+          let l : c < 16 = has-below 16 _ c (set-fits 16 _) e in
+          let some : 0 < getD stepTable c 0 = ltb-true 0 _ (sym (has-set 16 _ c l) ∙ e) in
+          omega (arith, zeros-pos 16 c, steps-is stepTable zoneTable aheadTable c l, out-steps X c 0 (omega (arith, steps-is stepTable zoneTable aheadTable c l))),
+      λ h.
+          let some : 0 < steps X c = moves-some (steps X c) _ (rw (out-are X c) at h) in
+          let l : c < 16 = step-below stepTable zoneTable aheadTable c 0 some in
+          has-set 16 _ c l ∙ lt-ltb 0 (getD stepTable c 0) (omega (arith, steps-is stepTable zoneTable aheadTable c l)),
+    )
+
+-- ---- cart c has moved on, and no other has
+
+module _ (X : Crossing) (old at : List ℕ) (c inside k : ℕ) (is : InsideSet X old inside) (member : has inside c ≡ true)
+    (counted : steps X c ≡ k) (others : (d : ℕ) → ¬ (d ≡ c) → pos at d ≡ pos old d) where
+  abbrev S : System
+  S = system X
+
+  out-at : pos (S .out) c ≡ suc (steps X c)
+  out-at = out-steps X c 0 (moves-some (steps X c) (pos old c) (rw (out-are X c) at (is c .0 member)))
+
+  as-before : (d : ℕ) → ¬ (d ≡ c) → (has inside d ≡ true) ↔ NotOut S at d
+  as-before d n = rw (others d n) (is d)
+
+  pub inside-kept : pos at c ≤ k → InsideSet X at inside
+  inside-kept still d = go (ℕ-discrete d c)
+    where
+      go : Dec (d ≡ c) → (has inside d ≡ true) ↔ NotOut S at d
+      go (yes e) = rw e (λ _. omega (arith, out-at, counted), λ _. member)
+      go (no n) = as-before d n
+
+  pub inside-out : (fewer : ℕ) → k < pos at c → Without inside c fewer → InsideSet X at fewer
+  inside-out fewer past without d = go (ℕ-discrete d c)
+    where
+      go : Dec (d ≡ c) → (has fewer d ≡ true) ↔ NotOut S at d
+      go (yes e) = rw e (
+        λ m. absurd (false≢true (sym (without-gone inside c fewer without) ∙ m)),
+        λ h. absurd (omega (arith, out-at, counted)),
+      )
+      go (no n) = rw (without-other inside c fewer without d n) (as-before d n)
+
+-- ---- no cart is left inside
+
+pub inside-going : (X : Crossing) (at : List ℕ) (inside : ℕ) → InsideSet X at inside → Going X at inside
+inside-going X at inside is = record {
+  none-left = λ none d m. false≢true (sym (has-none d) ∙ ap (λ (set : ℕ). has set d) (sym none) ∙ is d .1 (m .not-out));
+  inside = λ _. is;
+}

@@ -1,18 +1,20 @@
 #!/usr/bin/env python3
-"""Compares our proved programs with sheets.py, plans.py and judging.py, which follow document 01 in a form of their own.
+"""Compares our proved programs with sheets.py, plans.py, judging.py and planning.py, which follow document 01 in a form of their own.
 
 programs.py sheet FILE     prints what the program sheet_main must print for the sheet in FILE
 programs.py judge FILE     prints what the program judge_main must print for the sheet and plan in FILE
 programs.py lines FILE..   prints what the program vectors must print for these texts, with a sheet or a sheet and a plan a line
-programs.py check VECTORS JUDGE   compares the stored output of all, then runs VECTORS on random sheets and plans and JUDGE on odd inputs
+programs.py check VECTORS JUDGE PLANNER   compares the stored output of all, then runs these programs on random sheets and plans and odd inputs
 """
 import os
+import random
 import re
 import subprocess
 import sys
 import tempfile
 
 import judging
+import planning
 import plans
 import sheets
 
@@ -153,6 +155,26 @@ def check_inputs(program):
     print('judge program: %d inputs as expected' % len(inputs))
 
 
+def run_planner(program, sheet):
+    ran = subprocess.run([program], input=sheet, stdout=subprocess.PIPE, stderr=subprocess.PIPE, check=True)
+    return ran.stdout, ran.stderr
+
+
+def check_planner(program):
+    """The planner program on the stored sheets, on random ones, and on every kind of sheet that is refused."""
+    stored = [line.split() for line in read_text('compare/planned.txt').split('\n') if line and not line.startswith('#')]
+    for sheet, plan in stored:
+        compare(plan, run_planner(program, bytes.fromhex(sheet))[0].hex(), '%s on %s' % (program, sheet))
+    rng = random.Random(3)
+    small = [sheet for sheet in (sheets.a_sheet(rng) for _ in range(400)) if sum(len(cart[2]) for cart in sheet[1]) <= 20]
+    cases = [sheets.written(sheets.fields_of(*sheet)) for sheet in small]
+    cases += [case[0] for _, case in cases_of(read_text(DATA[0])) if sheets.read(case[0])[0]]
+    for sheet in cases:
+        wanted, got = planning.printed(sheet), run_planner(program, sheet)
+        compare(repr(wanted), repr(got), '%s on %s' % (program, sheet[:100].hex()))
+    print('planner program: %d stored and %d other sheets as expected' % (len(stored), len(cases)))
+
+
 def check_random(program):
     files = [[[sheet] for sheet in sheets.random_sheets()], list(plans.random_plans())]
     blocks = [blocks_of(enumerate(cases, 1)) for cases in files]
@@ -168,11 +190,12 @@ def main(words):
         print(judging.printed(read_bytes(words[1])), end='')
     elif words[:1] == ['lines']:
         print(output_of_texts(words[1:]), end='')
-    elif words[:1] == ['check'] and len(words) == 3:
-        vectors, judge = map(os.path.abspath, words[1:])
+    elif words[:1] == ['check'] and len(words) == 4:
+        vectors, judge, planner = map(os.path.abspath, words[1:])
         os.chdir(ROOT)
         check_stored()
         check_inputs(judge)
+        check_planner(planner)
         check_random(vectors)
     else:
         sys.exit(__doc__)

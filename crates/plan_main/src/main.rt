@@ -14,6 +14,11 @@ fn tell_refusal(outcome: Outcome) {
     io::write_all(STDERR_FILENO, b"\n");
 }
 
+// The first n of the bytes; all, where there are not so many.
+fn first_bytes(bytes: &[u8], n: usize) -> &[u8] {
+    if n <= bytes.len() { &bytes[..n] } else { bytes }
+}
+
 fn main() {
     let mut sheet = io::large_buffer();
     let n = io::read_full(STDIN_FILENO, &mut sheet);
@@ -24,6 +29,5 @@ fn main() {
         tell_refusal(outcome);
         return;
     }
-    let length = show::least(planned.length, 156);
-    io::write_all(STDOUT_FILENO, &room[..length]);
+    io::write_all(STDOUT_FILENO, first_bytes(&room, planned.length));
 }

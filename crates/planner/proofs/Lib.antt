@@ -1,4 +1,3 @@
-pub mod Examples
 pub mod Orders
 pub mod NotLocked
 pub mod Answers

@@ -72,6 +72,20 @@ static void keep_plan(size_t room_length)
     printf("other memory: %s\n", same(memory + wrote.length, before + wrote.length, sizeof memory - wrote.length));
 }
 
+/* Plans the sheet into room of so many bytes, and says what became of the memory there. */
+static void make_plan(size_t room_length)
+{
+    uint8_t memory[OBLAKOSH_PLAN], before[OBLAKOSH_PLAN];
+    memset(memory, 0xFF, sizeof memory);
+    memcpy(before, memory, sizeof memory);
+    oblakosh_planned planned = oblakosh_plan(sheet, sizeof sheet, memory, room_length);
+    if (done(planned.outcome)) {
+        printf("planned %zu bytes, finish %u: plan A's bytes %s\n", planned.length, planned.finish,
+               same(memory, plan, planned.length));
+    }
+    printf("other memory: %s\n", same(memory + planned.length, before + planned.length, sizeof memory - planned.length));
+}
+
 /* Asks the routine before the cart rolls, and says what it answers. */
 static void request(oblakosh_record *record, size_t cart)
 {
@@ -112,6 +126,8 @@ int main(void)
     show_list(2);
     keep_plan(OBLAKOSH_PLAN);
     keep_plan(sizeof plan - 1);
+    make_plan(OBLAKOSH_PLAN);
+    make_plan(sizeof plan - 1);
     drive();
     return 0;
 }

@@ -151,6 +151,18 @@ typedef struct {
 oblakosh_plan_written oblakosh_write_again(const uint8_t *sheet, size_t sheet_length, const uint8_t *plan, size_t plan_length,
                                            uint8_t *room, size_t room_length);
 
+/* ---- planning */
+
+typedef struct {
+    oblakosh_outcome outcome;
+    size_t length;                /* of the plan written */
+    uint32_t finish;              /* of the plan, as judging it gives */
+} oblakosh_planned;
+
+/* Writes the sheet's plan at the start of the room: the one document 01's removal rule gives, which is never locked. Refuses
+   with 1 to 14, and with 28 if the room is shorter than the plan. Bytes beyond the plan are untouched. */
+oblakosh_planned oblakosh_plan(const uint8_t *sheet, size_t sheet_length, uint8_t *room, size_t room_length);
+
 /* ---- one zone's list */
 
 typedef struct {
@@ -200,6 +212,7 @@ OBLAKOSH_HAS(oblakosh_sheet_read, 864);
 OBLAKOSH_HAS(oblakosh_plan_read, 1528);
 OBLAKOSH_HAS(oblakosh_judged, 64);
 OBLAKOSH_HAS(oblakosh_plan_written, 24);
+OBLAKOSH_HAS(oblakosh_planned, 32);
 OBLAKOSH_HAS(oblakosh_list_found, 32);
 OBLAKOSH_HAS(oblakosh_record, 20);
 OBLAKOSH_HAS(oblakosh_asked, 32);

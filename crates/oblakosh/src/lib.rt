@@ -4,6 +4,7 @@ use asking::Asked;
 use judge::Judged;
 use plan::PlanRead;
 use plan_writer::PlanWritten;
+use planner::Planned;
 use record::Record;
 use sheet::SheetRead;
 use zone_list::ListFound;
@@ -14,6 +15,7 @@ ghost use Rattle.plan.specs.Reading.{readPlan};
 ghost use Rattle.judge.specs.Judging.{judge, wordsAfter};
 ghost use Rattle.plan_writer.specs.Writing.{writeAgain, roomAfter};
 ghost use Rattle.zone_list.specs.Finding.{FoundIs};
+ghost use Rattle.planner.specs.Planning as planning;
 ghost use Rattle.asking.specs.Asking.{ask};
 
 // Reading a sheet: 1 to 14.
@@ -56,6 +58,15 @@ pub extern "C" fn oblakosh_find_list(s: &[u8], p: &[u8], zone: usize) -> ListFou
     ensures { λ r. ⌜ FoundIs (now (s .entry)) (now (p .entry)) zone r ⌝ }
 {
     zone_list::find_list(s, p, zone)
+}
+
+// Planning a sheet: 1 to 14, then 28.
+#[no_mangle]
+pub extern "C" fn oblakosh_plan(s: &[u8], room: &mut [u8]) -> Planned
+    ensures answer { λ r. ⌜ r ≡ planning.planSheet (now (s .entry)) (length (now (room .entry))) ⌝ }
+    ensures holds { λ r. ⌜ now (room .exit) ≡ planning.roomAfter (now (s .entry)) (now (room .entry)) ⌝ }
+{
+    planner::plan(s, room)
 }
 
 // What moving a cart would answer, with the record by value: 1 to 26.

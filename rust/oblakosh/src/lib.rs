@@ -251,6 +251,30 @@ pub fn write_again(sheet: &[u8], plan: &[u8], room: &mut [u8]) -> Result<usize, 
     answered(wrote.outcome, wrote.length)
 }
 
+/// A sheet's plan: its length, and its finish as judging it gives.
+#[cfg(feature = "controller")]
+#[derive(Clone, Copy, Debug, PartialEq, Eq)]
+pub struct Planned {
+    /// Bytes of the plan, at the start of the room.
+    pub length: usize,
+    /// The largest leaving time.
+    pub finish: u32,
+}
+
+/// Writes the sheet's plan at the start of the room, the one document 01's removal rule gives, which is never locked; or 1
+/// to 14, or 28 if the room is shorter than the plan. Bytes beyond the plan are untouched.
+#[cfg(feature = "controller")]
+pub fn plan(sheet: &[u8], room: &mut [u8]) -> Result<Planned, Refusal> {
+    let planned = unsafe {
+        linked::oblakosh_plan(sheet.as_ptr(), sheet.len(), room.as_mut_ptr(), room.len())
+    };
+    let made = Planned {
+        length: planned.length,
+        finish: planned.finish,
+    };
+    answered(planned.outcome, made)
+}
+
 /// The zone's passing list, first through first, as the very part of the plan lent; or 1 to 21, or 27.
 #[cfg(feature = "controller")]
 pub fn passing_list<'p>(sheet: &[u8], plan: &'p [u8], zone: usize) -> Result<&'p [u8], Refusal> {

@@ -41,6 +41,14 @@ pub struct PlanWritten {
 
 #[cfg(feature = "controller")]
 #[repr(C)]
+pub struct Planned {
+    pub outcome: Outcome,
+    pub length: usize,
+    pub finish: u32,
+}
+
+#[cfg(feature = "controller")]
+#[repr(C)]
 pub struct ListFound {
     pub outcome: Outcome,
     pub start: usize,
@@ -84,6 +92,12 @@ extern "C" {
         room: *mut u8,
         room_length: usize,
     ) -> PlanWritten;
+    pub fn oblakosh_plan(
+        s: *const u8,
+        s_length: usize,
+        room: *mut u8,
+        room_length: usize,
+    ) -> Planned;
     pub fn oblakosh_find_list(
         s: *const u8,
         s_length: usize,
@@ -114,6 +128,8 @@ const _: () = assert!(size_of::<SheetRead>() == 864);
 const _: () = assert!(size_of::<PlanRead>() == 1528);
 const _: () = assert!(size_of::<Judged>() == 64);
 #[cfg(feature = "controller")]
-const _: () = assert!(size_of::<PlanWritten>() == 24 && size_of::<ListFound>() == 32);
+const _: () = assert!(size_of::<PlanWritten>() == 24 && size_of::<Planned>() == 32);
+#[cfg(feature = "controller")]
+const _: () = assert!(size_of::<ListFound>() == 32);
 #[cfg(feature = "controller")]
 const _: () = assert!(size_of::<Record>() == 20 && size_of::<Asked>() == 32);

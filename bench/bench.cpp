@@ -14,6 +14,7 @@
 #include <string>
 #include <vector>
 
+#include "../include/oblakosh.h"
 #include "yardstick.hpp"
 
 using yardstick::CartSet;
@@ -209,6 +210,20 @@ __attribute__((noinline)) std::uint32_t yardstick_judge(const Input& input, std:
   return yardstick::finish_of(sheet.steps, sheet.passing, enter);
 }
 
+__attribute__((noinline)) std::uint32_t proved_judge(const Input& input, std::uint32_t* words) {
+  return oblakosh_judge(input.sheet_bytes.data(), input.sheet_bytes.size(), input.plan_bytes.data(), input.plan_bytes.size(), words, 128).finish;
+}
+
+// One request at the start, with the record by value: reading, a judge pass, and the test of the record.
+__attribute__((noinline)) unsigned proved_ask(const Input& input) {
+  const oblakosh_record start = {};
+  return oblakosh_ask(input.sheet_bytes.data(), input.sheet_bytes.size(), input.plan_bytes.data(), input.plan_bytes.size(), start, 0).outcome.number;
+}
+
+__attribute__((noinline)) std::uint32_t proved_plan(const Input& input, std::uint8_t* room) {
+  return oblakosh_plan(input.sheet_bytes.data(), input.sheet_bytes.size(), room, OBLAKOSH_PLAN).finish;
+}
+
 // Answers how many turns the removal rule took.
 __attribute__((noinline)) unsigned yardstick_plan(const Input& input, Orders& orders) {
   Planner planner(input.sheet);
@@ -284,9 +299,16 @@ int count() {
     marked(size, "yardstick core", inputs_of_a_size);
     for (const Input& input : inputs) yardstick_judge(input, times.enter);
     marked(size, "yardstick judge", inputs_of_a_size);
+    for (const Input& input : inputs) proved_judge(input, times.enter);
+    marked(size, "proved judge", inputs_of_a_size);
+    for (const Input& input : inputs) proved_ask(input);
+    marked(size, "proved ask", inputs_of_a_size);
     unsigned turns = 0;
     for (unsigned n = 0; n < plans_of_a_size; ++n) turns += yardstick_plan(inputs[n], orders);
     marked(size, "yardstick turn", turns);
+    std::uint8_t room[OBLAKOSH_PLAN];
+    for (unsigned n = 0; n < plans_of_a_size; ++n) proved_plan(inputs[n], room);
+    marked(size, "proved turn", turns);
     std::fprintf(stderr, "counted %s\n", size.name);
   }
   return 0;
@@ -308,7 +330,7 @@ double nanoseconds(const std::vector<Input>& inputs, unsigned rounds, Call call)
 }
 
 int clock_all() {
-  std::printf("%-40s %8s %8s %6s %10s %11s\n", "nanoseconds a call (median)", "proved", "yardst.", "ratio", "y. judges", "y. plans");
+  std::printf("%-40s %8s %8s %6s %10s %11s %11s\n", "nanoseconds a call (median)", "proved", "yardst.", "ratio", "y. judges", "y. plans", "p. plans");
   for (const Size& size : sizes) {
     // Many inputs, so that the processor does not learn their branches by heart.
     const std::vector<Input> inputs = make_inputs(size, 10 * inputs_of_a_size, Plans::accepted);
@@ -323,7 +345,9 @@ int clock_all() {
       });
     const double judge = nanoseconds(inputs, 2, [&](const Input& input) { yardstick_judge(input, times.enter); });
     const double plan = nanoseconds(few, 1, [&](const Input& input) { yardstick_plan(input, orders); });
-    std::printf("%-40s %8.0f %8.0f %6.2f %10.0f %11.0f\n", size.name, core[0], core[1], core[0] / core[1], judge, plan);
+    std::uint8_t room[OBLAKOSH_PLAN];
+    const double proved = nanoseconds(few, 1, [&](const Input& input) { proved_plan(input, room); });
+    std::printf("%-40s %8.0f %8.0f %6.2f %10.0f %11.0f %11.0f\n", size.name, core[0], core[1], core[0] / core[1], judge, plan, proved);
     std::fflush(stdout);
   }
   return 0;

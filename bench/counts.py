@@ -1,4 +1,5 @@
-"""Prints instructions a call, and a turn of the yardstick's planner, from callgrind's dumps: one dump for each line of the phases that `bench count` printed."""
+"""Prints instructions from callgrind's dumps, one dump for each line of the phases that `bench count` printed: a call of the judge's core, of judging
+whole, of one request, and a turn of planning, each beside the yardstick's and its ratio."""
 import re
 import sys
 
@@ -10,8 +11,12 @@ for number, line in enumerate(open(phases), 1):
     if int(calls):
         sizes.setdefault(size, {})[what] = total / int(calls)
 
-print(f"{'instructions a call':40} {'proved':>8} {'yardst.':>8} {'ratio':>6} {'y. judges':>10} {'y. turn':>8}")
+
+def beside(counted, what):
+    proved, yardstick = counted.get('proved ' + what), counted.get('yardstick ' + what)
+    return f"{proved:8.0f} {yardstick:8.0f} {proved / yardstick:6.2f}" if proved and yardstick else ' ' * 24
+
+
+print(f"{'instructions':40} {'core':>8} {'yardst.':>8} {'ratio':>6} | {'judge':>8} {'yardst.':>8} {'ratio':>6} | {'turn':>8} {'yardst.':>8} {'ratio':>6} | {'request':>8}")
 for size, counted in sizes.items():
-    ratio = counted['proved core'] / counted['yardstick core']
-    print(f"{size:40} {counted['proved core']:8.0f} {counted['yardstick core']:8.0f} {ratio:6.2f}"
-          f" {counted['yardstick judge']:10.0f} {counted.get('yardstick turn', 0):8.0f}")
+    print(f"{size:40} {beside(counted, 'core')} | {beside(counted, 'judge')} | {beside(counted, 'turn')} | {counted['proved ask']:8.0f}")

@@ -16,11 +16,11 @@ use Rattle.routes.specs.Moves.{system}
 use Rattle.routes.proofs.Moves.{out-are, out-steps}
 use Rattle.times.specs.Times.{Given}
 use Rattle.crossing.specs.Tables.{crossingOf, givenOf}
-use Rattle.crossing.proofs.Tables.{carts-16}
+use Rattle.crossing.proofs.Tables.{carts-16, steps-is}
 use Rattle.entering.specs.Lanes.{LaneSets}
 use Rattle.entering.specs.Times.{clearOf, latest, Enterable}
 use Rattle.one_move.specs.Running.{ZoneLeft, CanGoOn, GoneOn, CanGoOut, Running}
-use Rattle.one_move.proofs.Steps.{counted, steps-8, x-few, enter-says, x-enterable, first-moved, can-go-on, next-moved, out-may, can-go-out, out-moved}
+use Rattle.one_move.proofs.Steps.{steps-8, x-few, enter-says, x-enterable, first-moved, can-go-on, next-moved, out-may, can-go-out, out-moved}
 use Rattle.running.specs.Rounds.{Underway, Onward, Advanced}
 use Rattle.running.proofs.Inside.{moves-some}
 use Rattle.running.proofs.Rounds.{place-most, here, underway-room, underway-turn}
@@ -52,7 +52,7 @@ module _ (stepTable zoneTable aheadTable same arrival passing travel follow cros
 
   module _ (old left leave enter order : List ℕ) (c made : ℕ) (on : Underway X G old left leave enter order made) (l : c < 16) where
     counted-here : steps X c ≡ getD stepTable c 0
-    counted-here = counted stepTable zoneTable aheadTable same arrival passing travel follow cross old left leave enter (on .running) c l
+    counted-here = steps-is stepTable zoneTable aheadTable c l
 
     pub steps-few : getD stepTable c 0 ≤ 8
     steps-few = steps-8 stepTable zoneTable aheadTable same arrival passing travel follow cross old left leave enter (on .running) c l
@@ -95,7 +95,7 @@ module _ (stepTable zoneTable aheadTable same arrival passing travel follow cros
     stands = getD-set-same old c p 0 inside-old
 
     counted-at : steps X c ≡ k
-    counted-at = counted stepTable zoneTable aheadTable same arrival passing travel follow cross at left leave enter run c (on .cart-16)
+    counted-at = steps-is stepTable zoneTable aheadTable c (on .cart-16)
 
     moved-at : (q : ℕ) → q ≡ p + 1 → moved at c ≡ set old c q
     moved-at q is = set-set old c p (suc (pos at c)) ∙ ap (set old c) (omega (arith, stands))

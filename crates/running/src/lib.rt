@@ -16,6 +16,7 @@ ghost use Rattle.running.specs.Rounds.{presentSet, InsideSet, Underway, 
 ghost use Rattle.running.specs.Settled.{SettlesAs};
 
 // Cart c, which is not out, moves on as far as it may, and is stored in the table for each of its moves; answers how many moves are made in all.
+// `same` has for each cart the set of the carts on its lane, which stands for the lane.
 fn advance<'a>(
     steps: &'a [u8; 16],
     zone: &'a [u8; 128],
@@ -40,6 +41,7 @@ fn advance<'a>(
     let k = steps[c] as usize;
     let mut p = at[c] as usize;
     let mut made = before;
+    // From the lane no zone is left.
     if p == 0 {
         if !may_enter(zone, ahead, left, 8 * c) {
             return made;
@@ -106,9 +108,9 @@ fn present(steps: &[u8; 16]) -> u16
 }
 
 // How many moves are made in all after a turn of the carts, and which carts are asked in the next.
-pub struct Turn {
-    pub made: usize,
-    pub going: u16,
+struct Turn {
+    made: usize,
+    going: u16,
 }
 
 // Every cart that is not out moves on in turn as far as it may.

@@ -1,21 +1,25 @@
 #!/usr/bin/env python3
-"""Compares our proved programs with sheets.py and plans.py, which follow document 01 in a form of their own.
+"""Compares our proved programs with sheets.py, plans.py, judging.py and planning.py, which follow document 01 in a form of their own.
 
 programs.py sheet FILE     prints what the program sheet_main must print for the sheet in FILE
+programs.py judge FILE     prints what the program judge_main must print for the sheet and plan in FILE
 programs.py lines FILE..   prints what the program vectors must print for these texts, with a sheet or a sheet and a plan a line
-programs.py check VECTORS  compares the stored output of both, then runs the program VECTORS on random sheets and plans
+programs.py check VECTORS JUDGE PLANNER   compares the stored output of all, then runs these programs on random sheets and plans and odd inputs
 """
 import os
+import random
 import re
 import subprocess
 import sys
 import tempfile
 
+import judging
+import planning
 import plans
 import sheets
 
 ROOT = os.path.dirname(os.path.dirname(os.path.abspath(__file__)))
-DATA = ['crates/vectors/data/sheets.txt', 'crates/vectors/data/plans.txt']
+DATA = ['crates/vectors/data/sheets.txt', 'crates/vectors/data/plans.txt', 'crates/vectors/data/verdicts.txt']
 
 
 def read_text(path):
@@ -31,7 +35,7 @@ def read_bytes(path):
 # A case is a sheet alone, or a sheet and a plan for it. A line of a text holds one in hexadecimal.
 
 def shown(case):
-    return sheets.shown(*case) if len(case) == 1 else plans.shown(*case)
+    return sheets.shown(*case) if len(case) == 1 else plans.shown(*case) + judging.shown(*case)
 
 
 def line_of(case):
@@ -81,21 +85,22 @@ def compare(wanted, text, what, files=()):
     sys.exit('%s: file %d line %d: expected %r, got %r\n%s' % (what, at['file'], at['line'], want, have, case))
 
 
-def given(case):
-    """What a case gives: done, or the number and the place."""
-    first = shown(case)[0]
+def given(case, verdict):
+    """What a case gives when it is read, or judged: done, or the number and the place."""
+    first = (judging.shown(*case) if verdict else shown(case))[0]
     return 'done' if first.startswith('ok ') else first.removeprefix('refused ')
 
 
-def check_comments(path):
+def check_comments(path, verdict):
     """The comment above a stored case says what was expected of it by hand."""
     text = read_text(path)
     lines = text.split('\n')
     cases = list(cases_of(text))
     for number, case in cases:
         above = lines[number - 2]
-        if not above.startswith('# %s: ' % given(case)):
-            sys.exit('%s, line %d: document 01 gives %s, the line above is %r' % (path, number, given(case), above))
+        wanted = given(case, verdict)
+        if not above.startswith('# %s: ' % wanted):
+            sys.exit('%s, line %d: document 01 gives %s, the line above is %r' % (path, number, wanted, above))
     print('%s: %d cases as expected by hand' % (path, len(cases)))
 
 
@@ -104,8 +109,12 @@ def check_stored():
     if sheet != read_bytes('crates/sheet_main/stdin'):
         sys.exit('crates/sheet_main/stdin is not examples/S.sheet')
     compare('\n'.join(sheets.shown(sheet)) + '\n', read_text('crates/sheet_main/stdout'), 'crates/sheet_main/stdout')
+    both = sheet + read_bytes('examples/A.plan')
+    if both != read_bytes('crates/judge_main/stdin'):
+        sys.exit('crates/judge_main/stdin is not examples/S.sheet and A.plan')
+    compare(judging.printed(both), read_text('crates/judge_main/stdout'), 'crates/judge_main/stdout')
     for path in DATA:
-        check_comments(path)
+        check_comments(path, path.endswith('verdicts.txt'))
     compare(output_of_texts(DATA), read_text('crates/vectors/stdout'), 'crates/vectors/stdout')
 
 
@@ -133,24 +142,61 @@ def count_numbers(kind, numbers, blocks):
             sys.exit('number %d was never seen' % number)
 
 
+def check_inputs(program):
+    """The judge program on standard input: cut after every byte, with a plan that is locked, and with more than it reads."""
+    sheet = read_bytes('examples/S.sheet')
+    accepted, locked = read_bytes('examples/A.plan'), read_bytes('examples/B.plan')
+    inputs = [(sheet + accepted)[:size] for size in range(len(sheet + accepted) + 1)]
+    inputs += [sheet + locked, sheet + accepted + b'\0', b'\1\0\0' + accepted, b'\1\0\2' + sheet, bytes(2048), bytes(5000)]
+    inputs += [sheet[:1] + size.to_bytes(2, 'big') + sheet[3:] + accepted + bytes(2500) for size in [46, 2047, 2048, 2049, 65535]]
+    for given in inputs:
+        ran = subprocess.run([program], input=given, stdout=subprocess.PIPE, check=True)
+        compare(judging.printed(given), ran.stdout.decode(), '%s on %s' % (program, given[:100].hex()))
+    print('judge program: %d inputs as expected' % len(inputs))
+
+
+def run_planner(program, sheet):
+    ran = subprocess.run([program], input=sheet, stdout=subprocess.PIPE, stderr=subprocess.PIPE, check=True)
+    return ran.stdout, ran.stderr
+
+
+def check_planner(program):
+    """The planner program on the stored sheets, on random ones, and on every kind of sheet that is refused."""
+    stored = [line.split() for line in read_text('compare/planned.txt').split('\n') if line and not line.startswith('#')]
+    for sheet, plan in stored:
+        compare(plan, run_planner(program, bytes.fromhex(sheet))[0].hex(), '%s on %s' % (program, sheet))
+    rng = random.Random(3)
+    small = [sheet for sheet in (sheets.a_sheet(rng) for _ in range(400)) if sum(len(cart[2]) for cart in sheet[1]) <= 20]
+    cases = [sheets.written(sheets.fields_of(*sheet)) for sheet in small]
+    cases += [case[0] for _, case in cases_of(read_text(DATA[0])) if sheets.read(case[0])[0]]
+    for sheet in cases:
+        wanted, got = planning.printed(sheet), run_planner(program, sheet)
+        compare(repr(wanted), repr(got), '%s on %s' % (program, sheet[:100].hex()))
+    print('planner program: %d stored and %d other sheets as expected' % (len(stored), len(cases)))
+
+
 def check_random(program):
     files = [[[sheet] for sheet in sheets.random_sheets()], list(plans.random_plans())]
     blocks = [blocks_of(enumerate(cases, 1)) for cases in files]
     compare(output_of(blocks), run(program, files), program, files)
     count_numbers('sheets', range(15), blocks[0])
-    count_numbers('plans', [*range(22), 27, 28], blocks[1])
+    count_numbers('plans', [*range(23), 27, 28], blocks[1])
 
 
 def main(words):
     if words[:1] == ['sheet'] and len(words) == 2:
         print('\n'.join(sheets.shown(read_bytes(words[1]))))
+    elif words[:1] == ['judge'] and len(words) == 2:
+        print(judging.printed(read_bytes(words[1])), end='')
     elif words[:1] == ['lines']:
         print(output_of_texts(words[1:]), end='')
-    elif words[:1] == ['check'] and len(words) == 2:
-        program = os.path.abspath(words[1])
+    elif words[:1] == ['check'] and len(words) == 4:
+        vectors, judge, planner = map(os.path.abspath, words[1:])
         os.chdir(ROOT)
         check_stored()
-        check_random(program)
+        check_inputs(judge)
+        check_planner(planner)
+        check_random(vectors)
     else:
         sys.exit(__doc__)
 

@@ -18,7 +18,13 @@ use Rattle.zone_list.specs.Finding.{findingChecks, notFound, listFound, findLis
 use Rattle.zone_list.specs.declared.ListFound.{ListFound}
 use Rattle.judge.specs.Judging.{judged, judgeRefused, withTimes, ordersRead, judgingChecks, judge, wordsAfter}
 use Rattle.judge.specs.declared.Judged.{Judged}
-use Rattle.demands.specs.DemandOne.{AnswersOrRefuses, answers, refuses, ReadingASheet, ReadingAPlan, WritingAgain, FindingAList, JudgingAPlan}
+use Rattle.planner.specs.Planning as planning
+use Rattle.planner.specs.declared.Planned.{Planned}
+use Rattle.record.specs.declared.Record.{Record}
+use Rattle.asking.specs.Asking.{notMoved, hasMoved, movingChecks, ask}
+use Rattle.asking.specs.declared.Asked.{Asked}
+use Rattle.moving.specs.Moving.{movedRecord, recordAfter, MovedAs}
+use Rattle.demands.specs.DemandOne.{AnswersOrRefuses, answers, refuses, ReadingASheet, ReadingAPlan, WritingAgain, FindingAList, JudgingAPlan, PlanningASheet, AskingToMove, MovingACart}
 
 -- the first failing check decides: so for every operation that is defined by one
 answers-or-refuses : {R : Type 0} (refuse : Outcome → R) (answer : R) (checks : List Check) (r : R) → r ≡ firstFailing refuse answer checks → AnswersOrRefuses refuse answer checks r
@@ -54,4 +60,26 @@ judging-a-plan s p words r after e f =
     record {
       answer = answers-or-refuses (judgeRefused (sheetOf s) (ordersRead s p)) (judged (sheetOf s) (ordersRead s p)) (judgingChecks s p (length words)) r e;
       holds = answers-or-refuses (λ _. words) (withTimes (sheetOf s) (ordersRead s p) words) (judgingChecks s p (length words)) after f;
+    }
+
+pub planning-a-sheet : (s room : List ℕ) (r : Planned) (after : List ℕ) → r ≡ planning.planSheet s (length room) → after ≡ planning.roomAfter s room → PlanningASheet s room r after
+unfolding planning.planSheet planning.roomAfter
+planning-a-sheet s room r after e f =
+    record {
+      answer = answers-or-refuses planning.notPlanned (planning.planned (sheetOf s)) (planning.planningChecks s (length room)) r e;
+      holds = answers-or-refuses (λ _. room) (planning.withPlan s room) (planning.planningChecks s (length room)) after f;
+    }
+
+pub asking-to-move : (s p : List ℕ) (lent : Record) (cart : ℕ) (r : Asked) → r ≡ ask s p lent cart → AskingToMove s p lent cart r
+unfolding ask
+asking-to-move s p lent cart r e =
+    answers-or-refuses (notMoved (sheetOf s) (ordersRead s p) lent cart) (hasMoved lent cart) (movingChecks s p lent cart) r e
+
+-- of every call of the routine: MovedAs is its contract
+pub moving-a-cart : (s p : List ℕ) (lent : Record) (cart : ℕ) (r : Asked) (after : Record) → MovedAs s p lent cart after r → MovingACart s p lent cart r after
+unfolding recordAfter
+moving-a-cart s p lent cart r after is =
+    record {
+      answer = asking-to-move s p lent cart r (is .answer);
+      holds = answers-or-refuses (λ _. lent) (movedRecord lent cart) (movingChecks s p lent cart) after (is .holds);
     }

@@ -1,4 +1,4 @@
--- Demand 3, its sentence on locked plans: the ring that is shown is the theory's, entry by entry.
+-- Demand 3: what holds over all requests under an accepted plan; and the ring that is shown of a locked one is the theory's, entry by entry.
 use Prim.Native.Nat.{ℕ, zero, suc, _+_, _≤_, _<_}
 use mathlib.Core.Path.{_≡_, refl, sym, ap, _∙_}
 use mathlib.Core.Bool.{true, false, true≢false}
@@ -44,8 +44,13 @@ use Rattle.judge.specs.Judging.{planSystem, atEnd, isOut, lockedRing, ordersRea
 use Rattle.judge.specs.declared.Judged.{Judged}
 use Rattle.judge.proofs.Verdict.{plan-carts, accepts-out}
 use Rattle.judge.proofs.Outcomes.{judge-locked, number-locked}
+use Rattle.record.specs.declared.Record.{Record}
+use Rattle.moving.specs.Moving.{startRecord, Calls}
+use Rattle.moving.proofs.Accepted.{accepted-iff}
+use Rattle.moving.proofs.NotReached.{not-reached-iff}
+use Rattle.moving.proofs.Sequences as calls
 use Rattle.demands.specs.DemandTwo.{Readable, planned}
-use Rattle.demands.specs.DemandThree.{cart, wanted, next, rule, stuck, RingShown}
+use Rattle.demands.specs.DemandThree.{cart, wanted, next, rule, stuck, RingShown, DriversStart, Unreached}
 
 getD-map : (f : ℕ → ℕ) (list : List ℕ) (k : ℕ) → k < length list → getD (map f list) k 0 ≡ f (getD list k 0)
 getD-map f [] k h = absurd (omega arith)
@@ -156,3 +161,18 @@ ring-shown s p room r e locked =
     let (readable, out) = number-locked s p room (sym (ap (λ (x : Judged). x .outcome .number) e) ∙ locked) in
     let shown : r .ring ≡ lockedRing (sheetOf s) (ordersRead s p) = ap (λ (x : Judged). x .ring) (e ∙ judge-locked s p readable out room) in
     rw shown (locked-shown s p readable out)
+
+-- of every plan that judging accepts, and every sequence of calls of the routine
+pub drivers-start : (s p : List ℕ) (room : ℕ) → 128 ≤ room → judge s p room .outcome .number ≡ 0
+    → (requests : List ℕ) (last : Record) (made : Calls s p startRecord requests last) → DriversStart s p requests last made
+drivers-start s p room enough accepted requests last made =
+    let a = accepted-iff s p room enough .0 accepted in
+    record {
+      never-two = calls.never-two s p a requests last made;
+      some-may-move = calls.some-may-move s p a requests last made;
+      out-after = calls.out-after s p a requests last made;
+      count-is-sum = calls.count-is-sum s p a requests last made;
+    }
+
+pub unreached : (s p : List ℕ) (lent : Record) (cart : ℕ) → Unreached s p lent cart
+unreached = not-reached-iff

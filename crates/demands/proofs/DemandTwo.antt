@@ -1,10 +1,16 @@
 -- Demand 2, a theorem a sentence, of whatever meets the operations' contracts.
-use Prim.Native.Nat.{ℕ, _+_, _*_, _<_}
-use mathlib.Core.Path.{_≡_, sym, ap, _∙_}
+use Prim.Native.Nat.{ℕ, _+_, _*_, _≤_, _<_}
+use mathlib.Core.Path.{_≡_, refl, sym, ap, _∙_}
 use mathlib.Core.Bool.{true, false, true≢false, not-eq-not}
-use mathlib.Core.List.{List}
+use mathlib.Core.List.{List, [], _∷_}
 use native.Mathlib.Omega.{arith}
-use lib.ListN.{length, getD, drop, List·getD-append}
+use lib.ListN.{length, getD, take, drop, List·getD-append}
+use lib.Seq.{take-at}
+use lib.Dec.{leb}
+use borrow.Author.Tests.{le-leb, leb-true}
+use Rattle.words.specs.Checks.{Check, check, firstFailing, AllPass}
+use Rattle.words.proofs.All.{all-append, all-first, all-later}
+use Rattle.words.proofs.First.{first-pass, done-passes}
 use Rattle.words.proofs.Entries.{length-entries}
 use Rattle.words.proofs.Tables.{used-at}
 use Rattle.words.proofs.Tests.{ltb-says}
@@ -25,7 +31,16 @@ use Rattle.times.proofs.Entered.{entering-same}
 use Rattle.times.proofs.Times.{times-least}
 use Rattle.times.proofs.Finish.{finish-unique, finish-bound}
 use Rattle.times.proofs.Published.{published-agrees}
-use Rattle.sheet.specs.Reading.{sheetOf}
+use Rattle.sheet.specs.Checks.{sheetChecks}
+use Rattle.sheet.specs.Reading.{sheetOf, sheetDone, readSheet}
+use Rattle.sheet.specs.Valid.{Valid}
+use Rattle.sheet.specs.declared.Sheet.{Sheet}
+use Rattle.sheet.specs.declared.SheetRead.{SheetRead}
+use Rattle.sheet.proofs.Passing.{sheet-numbered, passes-accepted, accepted-passes}
+use Rattle.sheet.proofs.Accepted.{accepted-valid}
+use Rattle.plan.specs.Reading.{readPlan}
+use Rattle.plan.specs.Valid.{planLength}
+use Rattle.plan.specs.Written.{written}
 use Rattle.plan.proofs.RoundTrip.{written-readable}
 use Rattle.plan_writer.specs.Writing.{writeAgain, roomAfter}
 use Rattle.plan_writer.specs.declared.PlanWritten.{PlanWritten}
@@ -40,12 +55,16 @@ use Rattle.judge.specs.declared.Judged.{Judged}
 use Rattle.judge.proofs.Verdict.{accepts-out}
 use Rattle.judge.proofs.Words.{judged-times}
 use Rattle.judge.proofs.Outcomes.{judge-locked, judge-accepted, words-accepted, number-locked, number-accepted}
-use Rattle.demands.specs.DemandTwo.{Readable, planned, given, Verdict, TimesTold, JudgedRightly, ReadBack, SameBytes}
+use Rattle.planner.specs.Planning.{plannedOrders, planned, notPlanned, planningChecks, withPlan, planSheet, roomAfter as roomPlanned}
+use Rattle.planner.specs.declared.Planned.{Planned}
+use Rattle.planner.proofs.NotLocked.{planned-read, planned-length, planned-finish, planned-judged}
+use Rattle.demands.specs.DemandTwo as two
+use Rattle.demands.specs.DemandTwo.{Readable, given, Verdict, TimesTold, JudgedRightly, PlannedRightly, ReadBack, SameBytes}
 use Rattle.demands.proofs.DemandThree.{read-valid}
 
 module _ (s p : List ℕ) where
   abbrev X : Crossing
-  X = planned s p
+  X = two.planned s p
 
   full : Readable s p → Complete (routesOf (sheetOf s)) (listsOf (sheetOf s) (ordersRead s p))
   full readable = let (v, w) = read-valid s p readable in plan-complete (sheetOf s) v (ordersRead s p) w
@@ -148,6 +167,79 @@ judged-rightly s p words r after e f = record {
       let (readable, accepted, long) = number-accepted s p (length words) (sym (ap (λ (x : Judged). x .outcome .number) e) ∙ ok) in
       times-published s p readable accepted words after (f ∙ words-accepted s p readable accepted words long) r (e ∙ judge-accepted s p readable accepted (length words) long);
 }
+
+-- ---- the planner
+
+module _ (s : List ℕ) where
+  abbrev sheet : Sheet
+  sheet = sheetOf s
+
+  abbrev ownCheck : ℕ → List Check
+  ownCheck room = check 28 0 (leb (planLength sheet) room) ∷ []
+
+  planning-passes : (room : ℕ) → planSheet s room .outcome .number ≡ 0 → (readSheet s ≡ sheetDone sheet) × (planLength sheet ≤ room)
+  unfolding planSheet
+  planning-passes room e =
+      let all : AllPass (planningChecks s room) =
+      done-passes (λ (r : Planned). r .outcome) notPlanned (planned sheet) (λ o. refl) (planningChecks s room)
+      (all-append (λ (c : Check). 0 < c .number) (sheetChecks s) (ownCheck room) (sheet-numbered s) (omega arith, tt)) e in
+      let own : leb (planLength sheet) room ≡ true = all-later (λ (c : Check). c .passed ≡ true) (sheetChecks s) (ownCheck room) all .0 in
+      (passes-accepted s (all-first (λ (c : Check). c .passed ≡ true) (sheetChecks s) (ownCheck room) all), leb-true (planLength sheet) room own)
+
+  module _ (accepted : readSheet s .outcome .number ≡ 0) where
+    planning-done : (room : ℕ) → planLength sheet ≤ room → planSheet s room ≡ planned sheet
+    unfolding planSheet firstFailing
+    planning-done room l = first-pass notPlanned (planned sheet) (sheetChecks s) (ownCheck room) (accepted-passes s accepted) ∙ rw (le-leb (planLength sheet) room l)
+
+    room-done : (room : List ℕ) → planLength sheet ≤ length room → roomPlanned s room ≡ withPlan s room
+    unfolding roomPlanned firstFailing
+    room-done room l = first-pass (λ _. room) (withPlan s room) (sheetChecks s) (ownCheck (length room)) (accepted-passes s accepted) ∙ rw (le-leb (planLength sheet) (length room) l)
+
+  planned-outcome : planned sheet .outcome .number ≡ 0
+  unfolding planned
+  planned-outcome = refl
+
+  module _ (room : List ℕ) (r : Planned) (after : List ℕ) (is : r ≡ planSheet s (length room)) (holds : after ≡ roomPlanned s room) where
+    told-number : r .outcome .number ≡ planSheet s (length room) .outcome .number
+    told-number = ap (λ (x : Planned). x .outcome .number) is
+
+    module _ (ok : r .outcome .number ≡ 0) where
+      read : readSheet s ≡ sheetDone sheet
+      read = planning-passes (length room) (sym told-number ∙ ok) .0
+
+      accepted-sheet : readSheet s .outcome .number ≡ 0
+      accepted-sheet = ap (λ (x : SheetRead). x .outcome .number) read
+
+      valid : Valid sheet
+      valid = rw read at (accepted-valid s accepted-sheet)
+
+      fits : planLength sheet ≤ length room
+      fits = planning-passes (length room) (sym told-number ∙ ok) .1
+
+      answer-is : r ≡ planned sheet
+      answer-is = is ∙ planning-done accepted-sheet (length room) fits
+
+      -- what stands at the start of the room
+      plan-is : take (r .length) after ≡ written (sheet .zones) (plannedOrders sheet)
+      unfolding planned
+      plan-is =
+          ap (λ (x : Planned). take (x .length) after) answer-is
+          ∙ ap (take (planLength sheet)) (holds ∙ room-done accepted-sheet room fits)
+          ∙ take-at (written (sheet .zones) (plannedOrders sheet)) (drop (planLength sheet) room) (planLength sheet) (planned-length sheet valid)
+
+    pub planned-rightly : PlannedRightly s room r after
+    planned-rightly = record {
+      answers = (
+        λ ok. (accepted-sheet ok, fits ok),
+        λ (accepted, l). told-number ∙ ap (λ (x : Planned). x .outcome .number) (planning-done accepted (length room) l) ∙ planned-outcome,
+      );
+      by-the-rule = λ ok. ap (readPlan s) (plan-is ok) ∙ planned-read sheet (valid ok) s (read ok);
+      not-locked = λ ok words l.
+          let judged-is = ap (λ (p : List ℕ). judge s p words) (plan-is ok) ∙ planned-judged sheet (valid ok) s (read ok) words l in (
+            ap (λ (x : Judged). x .outcome .number) judged-is,
+            ap (λ (x : Judged). x .finish) judged-is ∙ sym (planned-finish sheet (valid ok)) ∙ ap (λ (x : Planned). x .finish) (sym (answer-is ok)),
+          );
+    }
 
 -- "Plans written are read back to the same orders"
 pub plans-read-back : ReadBack

@@ -19,6 +19,7 @@ ghost use Rattle.plan.specs.Valid.{ValidOrders};
 ghost use Rattle.judge.specs.Judging.{judged, notJudged, verdictChecks, judgeRefused, withTimes, judge, wordsAfter};
 
 // What judging answers: done with the finish and the number of moves, or a refusal with both 0. Only a locked plan has a ring.
+#[repr(C)]
 pub struct Judged {
     pub outcome: Outcome,
     pub finish: u32,

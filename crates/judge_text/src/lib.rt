@@ -105,12 +105,10 @@ fn show_times(s: &[u8], words: [u32; 128]) {
     }
 }
 
-// Judges a sheet and the plan after it, and prints the verdict.
-pub fn show_verdict(input: &[u8]) {
-    let n = sheet_length(input);
-    let s = &input[..n];
+// Judges a plan for a sheet, and prints the verdict.
+pub fn show_judged(s: &[u8], p: &[u8]) {
     let mut words = [0u32; 128];
-    let judged = judge(s, &input[n..], &mut words);
+    let judged = judge(s, p, &mut words);
     let outcome = judged.outcome;
     if outcome.number != 0 {
         show::put_refusal(outcome);
@@ -122,4 +120,10 @@ pub fn show_verdict(input: &[u8]) {
     put(b" finish ", judged.finish as u64);
     end_line();
     show_times(s, words);
+}
+
+// The same of a sheet and the plan after it.
+pub fn show_verdict(input: &[u8]) {
+    let n = sheet_length(input);
+    show_judged(&input[..n], &input[n..]);
 }

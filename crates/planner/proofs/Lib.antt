@@ -1,1 +1,4 @@
-pub mod Examples
+pub mod Orders
+pub mod NotLocked
+pub mod Answers
+pub mod Final

@@ -10,6 +10,7 @@ ghost use Rattle.words.specs.Lists.{entries};
 ghost use Rattle.ring.specs.Tables.{NotOutIn, StuckIn, wantedIn, Wanting, pointIn, firstNotLeft, Listable, AllListable, InZones, ByTable, byTable};
 
 // The carts that wait for each other in a circle, begun at the lowest, each with the zone that it wants. Unused entries are 0.
+#[repr(C)]
 pub struct Ring {
     pub length: usize,
     pub cart: [u8; 16],

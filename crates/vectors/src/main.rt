@@ -1,8 +1,6 @@
 // Shows each line of the text files that the arguments name, under the file's number and the line's.
 // A line holds a sheet in hexadecimal, or a sheet, a bar and a plan for it: two digits a byte, spaces are free, and `-` stands for no bytes.
 // An empty line holds nothing, and `#` starts a comment. Other characters are passed over, as spaces are.
-mod plans;
-
 use libc::STDOUT_FILENO;
 ghost use Prim.Native.Nat.{_<_};
 
@@ -44,7 +42,9 @@ fn show_line(line: Line, sheet: &[u8], plan: &[u8]) {
         name(b"line ", line.number);
         let s = bytes_read(sheet, line.sheet_digits);
         if line.is_plan {
-            plans::show_plan(s, bytes_read(plan, line.plan_digits));
+            let p = bytes_read(plan, line.plan_digits);
+            plan_text::show_plan(s, p);
+            judge_text::show_judged(s, p);
         } else {
             show::show_sheet(s);
         }

@@ -6,6 +6,7 @@ ghost use mathlib.Core.Path.{_≡_};
 ghost use Rattle.zone_list.specs.Finding.{notFound, FoundIs, PartIs};
 
 // Where a zone's passing list stands in the plan lent, or a refusal with both 0.
+#[repr(C)]
 pub struct ListFound {
     pub outcome: Outcome,
     pub start: usize,

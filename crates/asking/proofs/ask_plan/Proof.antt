@@ -1,0 +1,113 @@
+-- Each way out is what the tests so far say.
+use mathlib.Core.Path.{sym, _∙_}
+use borrow.Author.Tests.{not-true, not-false}
+use native.Mathlib.Omega.{arith}
+use Rattle.asking.proofs.Request.{sheet-orderly, locked-is, unreached-is, made-few, absent-is, tested-standing, cart-few, already-is, place-few, moved-is, held-wanting, held-is}
+use borrow.Author.Needs.{needs}
+use Rattle.asking.proofs.ask_plan.Statement.{statement}
+use Rattle.asking.proofs.ask_plan.Tie as tie
+
+is-out-requires : tie.Need-is-out-requires
+is-out-requires c κs = search needs
+
+refused-requires : tie.Need-refused-requires
+refused-requires c κs = search needs
+
+no-move-requires : tie.Need-no-move-requires
+no-move-requires c κs = search needs
+
+returns : tie.Need-returns
+returns c = c .no-move .ensures ∙ rw (c .before .refused .ensures) (locked-is _ _ (c .before .before .before .before .pre .0) (c .before .before .before .before .pre .1) _ _ (sym (c .before .before .before .is-out .ensures) ∙ not-true _ (c .before .before .if1 .taken)))
+
+test-record-requires : tie.Need-test-record-requires
+test-record-requires c κs = sheet-orderly _ _ (c .before .before .before .before .before .before .before .before .pre .0) (c .before .before .before .before .before .before .before .before .pre .1)
+
+refused-requires-2 : tie.Need-refused-requires-2
+refused-requires-2 c κs = search needs
+
+no-move-requires-2 : tie.Need-no-move-requires-2
+no-move-requires-2 c κs = search needs
+
+returns-2 : tie.Need-returns-2
+returns-2 c = c .no-move2 .ensures ∙ rw (c .before .refused2 .ensures) (unreached-is _ _ (c .before .before .before .before .before .before .before .before .before .before .before .before .before .pre .0) (c .before .before .before .before .before .before .before .before .before .before .before .before .before .pre .1) _ _ (sym (c .before .before .before .before .before .before .before .before .before .before .before .before .is-out .ensures) ∙ not-false _ (c .before .before .before .before .before .before .before .before .before .before .before .if1 .left)) _ (c .before .before .before .before .test-record .ensures) (not-true _ (c .before .before .if2 .taken)))
+
+refused-requires-3 : tie.Need-refused-requires-3
+refused-requires-3 c κs = search needs
+
+no-move-requires-3 : tie.Need-no-move-requires-3
+no-move-requires-3 c κs = search needs
+
+returns-3 : tie.Need-returns-3
+returns-3 c = c .no-move3 .ensures ∙ rw (c .before .refused3 .ensures) (absent-is _ _ (c .before .before .before .before .before .before .before .before .before .before .before .before .before .before .before .pre .0) (c .before .before .before .before .before .before .before .before .before .before .before .before .before .before .before .pre .1) _ _ (sym (c .before .before .before .before .before .before .before .before .before .before .before .before .before .before .is-out .ensures) ∙ not-false _ (c .before .before .before .before .before .before .before .before .before .before .before .before .before .if1 .left)) _ (c .before .before .before .before .before .before .test-record .ensures) (not-false _ (c .before .before .before .before .if2 .left)) (c .before .before .if3 .taken))
+
+array-read-if4 : tie.Need-array-read-if4
+array-read-if4 c = search needs
+
+array-read-if4-2 : tie.Need-array-read-if4-2
+array-read-if4-2 c = search needs
+
+refused-requires-4 : tie.Need-refused-requires-4
+refused-requires-4 c κs = search needs
+
+no-move-requires-4 : tie.Need-no-move-requires-4
+no-move-requires-4 c κs = search needs
+
+returns-4 : tie.Need-returns-4
+returns-4 c = c .no-move4 .ensures ∙ rw (c .before .refused4 .ensures) (already-is _ _ (c .before .before .before .before .before .before .before .before .before .before .before .before .before .before .before .before .before .pre .0) (c .before .before .before .before .before .before .before .before .before .before .before .before .before .before .before .before .before .pre .1) _ _ (sym (c .before .before .before .before .before .before .before .before .before .before .before .before .before .before .before .before .is-out .ensures) ∙ not-false _ (c .before .before .before .before .before .before .before .before .before .before .before .before .before .before .before .if1 .left)) _ (c .before .before .before .before .before .before .before .before .test-record .ensures) (not-false _ (c .before .before .before .before .before .before .if2 .left)) (c .before .before .before .before .if3 .left) (c .before .before .if4 .taken))
+
+may-move-requires : tie.Need-may-move-requires
+may-move-requires c κs = (tested-standing _ _ (c .before .before .before .before .before .before .before .before .before .before .before .before .before .before .before .before .before .before .before .before .before .pre .0) (c .before .before .before .before .before .before .before .before .before .before .before .before .before .before .before .before .before .before .before .before .before .pre .1) _ (c .before .before .before .before .before .before .before .before .before .before .before .before .before .before .before .before .before .before .before .before .before .args .cart) (sym (c .before .before .before .before .before .before .before .before .before .before .before .before .before .before .before .before .before .before .before .before .is-out .ensures) ∙ not-false _ (c .before .before .before .before .before .before .before .before .before .before .before .before .before .before .before .before .before .before .before .if1 .left)) _ (c .before .before .before .before .before .before .before .before .before .before .before .before .test-record .ensures) (not-false _ (c .before .before .before .before .before .before .before .before .before .before .if2 .left)), cart-few _ _ (c .before .before .before .before .before .before .before .before .before .before .before .before .before .before .before .before .before .before .before .before .before .pre .0) (c .before .before .before .before .before .before .before .before .before .before .before .before .before .before .before .before .before .before .before .before .before .pre .1) _ _ (sym (c .before .before .before .before .before .before .before .before .before .before .before .before .before .before .before .before .before .before .before .before .is-out .ensures) ∙ not-false _ (c .before .before .before .before .before .before .before .before .before .before .before .before .before .before .before .before .before .before .before .if1 .left)) _ (c .before .before .before .before .before .before .before .before .before .before .before .before .test-record .ensures) (not-false _ (c .before .before .before .before .before .before .before .before .before .before .if2 .left)) (c .before .before .before .before .before .before .before .before .if3 .left))
+
+refused-requires-5 : tie.Need-refused-requires-5
+refused-requires-5 c κs = search needs
+
+carts-ahead-requires : tie.Need-carts-ahead-requires
+carts-ahead-requires c κs = held-wanting _ _ (c .before .before .before .before .before .before .before .before .before .before .before .before .before .before .before .before .before .before .before .before .before .before .before .before .before .before .before .before .pre .0) (c .before .before .before .before .before .before .before .before .before .before .before .before .before .before .before .before .before .before .before .before .before .before .before .before .before .before .before .before .pre .1) _ _ (sym (c .before .before .before .before .before .before .before .before .before .before .before .before .before .before .before .before .before .before .before .before .before .before .before .before .before .before .before .is-out .ensures) ∙ not-false _ (c .before .before .before .before .before .before .before .before .before .before .before .before .before .before .before .before .before .before .before .before .before .before .before .before .before .before .if1 .left)) _ (c .before .before .before .before .before .before .before .before .before .before .before .before .before .before .before .before .before .before .before .test-record .ensures) (not-false _ (c .before .before .before .before .before .before .before .before .before .before .before .before .before .before .before .before .before .if2 .left)) (c .before .before .before .before .before .before .before .before .before .before .before .before .before .before .before .if3 .left) (c .before .before .before .before .before .before .before .before .before .before .before .before .before .if4 .left) _ (c .before .before .before .before .before .before .may-move .ensures) (not-true _ (c .before .before .before .before .before .if5 .taken))
+
+no-move-requires-5 : tie.Need-no-move-requires-5
+no-move-requires-5 c κs = search needs
+
+returns-5 : tie.Need-returns-5
+returns-5 c = c .no-move5 .ensures ∙ rw (c .before .before .before .before .before .before .refused5 .ensures) (held-is _ _ (c .before .before .before .before .before .before .before .before .before .before .before .before .before .before .before .before .before .before .before .before .before .before .before .before .before .before .before .before .before .before .pre .0) (c .before .before .before .before .before .before .before .before .before .before .before .before .before .before .before .before .before .before .before .before .before .before .before .before .before .before .before .before .before .before .pre .1) _ _ (sym (c .before .before .before .before .before .before .before .before .before .before .before .before .before .before .before .before .before .before .before .before .before .before .before .before .before .before .before .before .before .is-out .ensures) ∙ not-false _ (c .before .before .before .before .before .before .before .before .before .before .before .before .before .before .before .before .before .before .before .before .before .before .before .before .before .before .before .before .if1 .left)) _ (c .before .before .before .before .before .before .before .before .before .before .before .before .before .before .before .before .before .before .before .before .before .test-record .ensures) (not-false _ (c .before .before .before .before .before .before .before .before .before .before .before .before .before .before .before .before .before .before .before .if2 .left)) (c .before .before .before .before .before .before .before .before .before .before .before .before .before .before .before .before .before .if3 .left) (c .before .before .before .before .before .before .before .before .before .before .before .before .before .before .before .if4 .left) _ (c .before .before .before .before .before .before .before .before .may-move .ensures) (not-true _ (c .before .before .before .before .before .before .before .if5 .taken)) _ (c .before .carts-ahead .ensures))
+
+array-read-t22 : tie.Need-array-read-t22
+array-read-t22 c = search needs
+
+add-t25 : tie.Need-add-t25
+add-t25 c = record { fits = omega (arith, place-few _ _ (c .before .before .before .before .before .before .before .before .before .before .before .before .before .before .before .before .before .before .before .before .before .before .before .pre .0) (c .before .before .before .before .before .before .before .before .before .before .before .before .before .before .before .before .before .before .before .before .before .before .before .pre .1) _ _ (sym (c .before .before .before .before .before .before .before .before .before .before .before .before .before .before .before .before .before .before .before .before .before .before .is-out .ensures) ∙ not-false _ (c .before .before .before .before .before .before .before .before .before .before .before .before .before .before .before .before .before .before .before .before .before .if1 .left)) _ (c .before .before .before .before .before .before .before .before .before .before .before .before .before .before .test-record .ensures) (not-false _ (c .before .before .before .before .before .before .before .before .before .before .before .before .if2 .left)) (c .before .before .before .before .before .before .before .before .before .before .if3 .left) (c .before .before .before .before .before .before .before .before .if4 .left)) }
+
+add-t40 : tie.Need-add-t40
+add-t40 c = record { fits = omega (arith, made-few _ _ (c .before .before .before .before .before .before .before .before .before .before .before .before .before .before .before .before .before .before .before .before .before .before .before .before .pre .0) (c .before .before .before .before .before .before .before .before .before .before .before .before .before .before .before .before .before .before .before .before .before .before .before .before .pre .1) _ (c .before .before .before .before .before .before .before .before .before .before .before .before .before .before .before .before .before .before .before .before .before .before .before .before .args .cart) (sym (c .before .before .before .before .before .before .before .before .before .before .before .before .before .before .before .before .before .before .before .before .before .before .before .is-out .ensures) ∙ not-false _ (c .before .before .before .before .before .before .before .before .before .before .before .before .before .before .before .before .before .before .before .before .before .before .if1 .left)) _ (c .before .before .before .before .before .before .before .before .before .before .before .before .before .before .before .test-record .ensures) (not-false _ (c .before .before .before .before .before .before .before .before .before .before .before .before .before .if2 .left))) }
+
+returns-6 : tie.Need-returns-6
+returns-6 c = moved-is _ _ (c .before .before .before .before .before .before .before .before .before .before .before .before .before .before .before .before .before .before .before .before .before .before .before .before .pre .0) (c .before .before .before .before .before .before .before .before .before .before .before .before .before .before .before .before .before .before .before .before .before .before .before .before .pre .1) _ _ (sym (c .before .before .before .before .before .before .before .before .before .before .before .before .before .before .before .before .before .before .before .before .before .before .before .is-out .ensures) ∙ not-false _ (c .before .before .before .before .before .before .before .before .before .before .before .before .before .before .before .before .before .before .before .before .before .before .if1 .left)) _ (c .before .before .before .before .before .before .before .before .before .before .before .before .before .before .before .test-record .ensures) (not-false _ (c .before .before .before .before .before .before .before .before .before .before .before .before .before .if2 .left)) (c .before .before .before .before .before .before .before .before .before .before .before .if3 .left) (c .before .before .before .before .before .before .before .before .before .if4 .left) _ (c .before .before .may-move .ensures) (not-false _ (c .before .if5 .left))
+
+pub ask-plan-spec : {M : Type 1} → statement M
+ask-plan-spec =
+    tie.close
+    (tie.spec
+    is-out-requires
+    refused-requires
+    no-move-requires
+    returns
+    test-record-requires
+    refused-requires-2
+    no-move-requires-2
+    returns-2
+    refused-requires-3
+    no-move-requires-3
+    returns-3
+    array-read-if4
+    array-read-if4-2
+    refused-requires-4
+    no-move-requires-4
+    returns-4
+    may-move-requires
+    refused-requires-5
+    carts-ahead-requires
+    no-move-requires-5
+    returns-5
+    array-read-t22
+    add-t25
+    add-t40
+    returns-6)

@@ -1,0 +1,15 @@
+pub mod Strict
+pub mod Ranks
+pub mod Taken
+pub mod Largest
+pub mod Members
+pub mod Candidates
+pub mod Differences
+pub mod Ties
+pub mod Compared
+pub mod Pairs
+pub mod SameTimes
+pub mod Told
+pub mod Choosing
+pub mod Scanning
+pub mod Group

@@ -1,0 +1,52 @@
+-- The loop keeps that the carts before c stand where they are out.
+use Prim.Native.Nat.{_-_}
+use native.Mathlib.Omega.{arith}
+use Rattle.spare.proofs.Out.{OutTo, out-none, out-next, out-all}
+use borrow.Author.Needs.{needs}
+use Rattle.spare.proofs.out_positions.Statement.{statement}
+use Rattle.spare.proofs.out_positions.Tie as tie
+
+abbrev Inv-loop : tie.InvT-loop
+Inv-loop steps at₀ c₀ at c = OutTo steps c at
+
+abbrev μ-loop : tie.MeasureT-loop
+μ-loop steps at₀ c₀ at c = 16 - c
+
+loop-holds : tie.Need-loop-holds Inv-loop μ-loop
+loop-holds c = out-none _
+
+element-copy-out-moves-of : tie.Need-element-copy-out-moves-of Inv-loop μ-loop
+element-copy-out-moves-of c = search needs
+
+moves-of-requires : tie.Need-moves-of-requires Inv-loop μ-loop
+moves-of-requires c κs = c .before .before .before .pre (c .before .before .loop .c)
+
+array-write-at : tie.Need-array-write-at Inv-loop μ-loop
+array-write-at c = search needs
+
+add-c : tie.Need-add-c Inv-loop μ-loop
+add-c c = search needs
+
+loop-less : tie.Need-loop-less Inv-loop μ-loop
+loop-less c = search needs
+
+loop-again : tie.Need-loop-again Inv-loop μ-loop
+loop-again c = out-next _ _ _ _ (omega arith) (c .before .before .before .loop .inv) (c .moves-of .ensures)
+
+returns : tie.Need-returns Inv-loop μ-loop
+returns c = out-all _ _ _ (c .loop-test .left) (c .before .loop .inv)
+
+pub out-positions-spec : {M : Type 1} → statement M
+out-positions-spec =
+    tie.close
+    (tie.spec
+    Inv-loop
+    μ-loop
+    loop-holds
+    element-copy-out-moves-of
+    moves-of-requires
+    array-write-at
+    add-c
+    loop-less
+    loop-again
+    returns)

@@ -1,3 +1,4 @@
+pub mod Permission
 pub mod Counted
 pub mod Ahead
 pub mod Verdict

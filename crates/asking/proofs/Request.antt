@@ -24,7 +24,7 @@ use Rattle.sheet.specs.declared.Sheet.{Sheet}
 use Rattle.plan.specs.Valid.{ValidOrders}
 use Rattle.plan.specs.declared.Orders.{Orders}
 use Rattle.plan.proofs.Visitors.{step-valid, steps-most}
-use Rattle.one_move.specs.Running.{Standing}
+use Rattle.asking.specs.Standing.{Standing}
 use Rattle.ring.specs.Ring.{isNotOut}
 use Rattle.record.specs.Record.{isReached}
 use Rattle.record.specs.Tables.{Orderly, TestedAs}

@@ -1,4 +1,3 @@
-use one_move::may_move;
 use plan::Orders;
 use plan_reader::read_plan;
 use record::Record;
@@ -10,9 +9,16 @@ use sheet::Sheet;
 use words::Outcome;
 use words::refused;
 ghost use mathlib.Core.Path.{_≡_};
+ghost use mathlib.Core.Logic.{_↔_};
+ghost use mathlib.Core.Bool.{true};
+ghost use Prim.Native.Nat.{_<_};
+ghost use Rattle.moves.specs.Moves.{Permitted};
+ghost use Rattle.routes.specs.Moves.{system};
+ghost use Rattle.crossing.specs.Tables.{crossingOf};
 ghost use Rattle.sheet.specs.Valid.{Valid};
 ghost use Rattle.plan.specs.Valid.{ValidOrders};
 ghost use Rattle.judge.specs.Judging.{isOut};
+ghost use Rattle.asking.specs.Standing.{Standing};
 ghost use Rattle.asking.specs.Tables.{WantsZone, notGone, noMove};
 ghost use Rattle.asking.specs.Asking.{askOf, ask};
 
@@ -60,6 +66,29 @@ fn is_out(sheet: Sheet, orders: Orders) -> bool
         &mut order,
     );
     lowest_stuck(&steps, &settled.at) == 16
+}
+
+// Whether the next move of cart c is permitted: into a zone that all carts ahead have left, or out.
+fn may_move<'a>(
+    steps: &'a [u8; 16],
+    zone: &'a [u8; 128],
+    ahead: &'a [u16; 128],
+    at: &[u8; 16],
+    left: &[u16; 24],
+    c: usize,
+) -> bool
+    requires { ⌜ Standing (crossingOf (now steps) (now zone) (now ahead)) (now at) (now left) × (c < 16) ⌝ }
+    ensures { λ r. ⌜ (r ≡ true) ↔ Permitted (system (crossingOf (now (steps .entry)) (now (zone .entry)) (now (ahead .entry)))) (now (at .entry)) c ⌝ }
+{
+    if at[c] < steps[c] {
+        let x = 8 * c + at[c] as usize;
+        let z = zone[x] as usize;
+        return carts::within(ahead[x], left[z]);
+    }
+    if steps[c] == 0 {
+        return false;
+    }
+    at[c] == steps[c]
 }
 
 // How many carts ahead of cart c have not left the zone that it wants: the ones of a set.

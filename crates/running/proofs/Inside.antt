@@ -23,7 +23,7 @@ use Rattle.crossing.proofs.Tables.{steps-is, step-below}
 use Rattle.entering.proofs.SetLaws.{without-gone, without-other, set-with, set-as-before}
 use Rattle.running.specs.Rounds.{presentSet, InsideSet, Going}
 
-moves-some : (k p : ℕ) → p < movesOf k → 0 < k
+pub moves-some : (k p : ℕ) → p < movesOf k → 0 < k
 moves-some zero p h = absurd (omega arith)
 moves-some (suc k) p h = omega arith
 

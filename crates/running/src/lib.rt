@@ -1,17 +1,22 @@
+use entering::enter_zone;
 use entering::lanes;
-use one_move::make_move;
-use one_move::may_move;
+use one_move::may_enter;
+use one_move::move_on;
+use one_move::move_out;
 use sets::carts;
 ghost use mathlib.Core.Path.{_≡_};
 ghost use Prim.Native.Nat.{_<_};
 ghost use lib.ListN.{length, replicate};
+ghost use Rattle.moves.specs.Moves.{NotOut};
+ghost use Rattle.routes.specs.Moves.{system};
 ghost use Rattle.crossing.specs.Tables.{crossingOf, givenOf};
 ghost use Rattle.crossing.specs.Sound.{Sound};
 ghost use Rattle.entering.specs.Lanes.{LaneSets};
 ghost use Rattle.running.specs.Rounds.{presentSet, InsideSet, Underway, Advanced, Swept};
 ghost use Rattle.running.specs.Settled.{SettlesAs};
 
-// Cart c moves on as far as it may, and is stored in the table for each of its moves; answers how many moves are made in all.
+// Cart c, which is not out, moves on as far as it may, and is stored in the table for each of its moves; answers how many moves are made in all.
+// `same` has for each cart the set of the carts on its lane, which stands for the lane.
 fn advance<'a>(
     steps: &'a [u8; 16],
     zone: &'a [u8; 128],
@@ -30,31 +35,61 @@ fn advance<'a>(
     c: usize,
     before: usize,
 ) -> usize
-    requires { ⌜ Underway (crossingOf (now steps) (now zone) (now ahead)) (givenOf (now same) (now arrival) (now passing) (now travel) (now follow) (now cross)) (now at) (now left) (now leave) (now enter) (now order) before × (c < 16) × LaneSets (now same) ⌝ }
+    requires { ⌜ Underway (crossingOf (now steps) (now zone) (now ahead)) (givenOf (now same) (now arrival) (now passing) (now travel) (now follow) (now cross)) (now at) (now left) (now leave) (now enter) (now order) before × (c < 16) × NotOut (system (crossingOf (now steps) (now zone) (now ahead))) (now at) c × LaneSets (now same) ⌝ }
     ensures { λ r. ⌜ Advanced (crossingOf (now (steps .entry)) (now (zone .entry)) (now (ahead .entry))) (givenOf (now (same .entry)) (now (arrival .entry)) (now (passing .entry)) (now (travel .entry)) (now (follow .entry)) (now (cross .entry))) (now (at .entry)) (now (at .exit)) (now (left .exit)) (now (leave .exit)) (now (enter .exit)) (now (order .exit)) c before r ⌝ }
 {
+    let k = steps[c] as usize;
+    let mut p = at[c] as usize;
     let mut made = before;
-    while may_move(steps, zone, ahead, at, left, c) {
+    // From the lane no zone is left.
+    if p == 0 {
+        if !may_enter(zone, ahead, left, 8 * c) {
+            return made;
+        }
         order[made] = c as u8;
-        make_move(
-            steps,
+        made += 1;
+        enter_zone(
             zone,
             ahead,
             same,
-            arrival,
+            follow,
+            cross,
+            leave,
+            enter,
+            8 * c,
+            c,
+            arrival[c],
+        );
+        p = 1;
+    }
+    while p < k {
+        let x = 8 * c + p;
+        if !may_enter(zone, ahead, left, x) {
+            at[c] = p as u8;
+            return made;
+        }
+        order[made] = c as u8;
+        made += 1;
+        move_on(
+            zone,
+            ahead,
+            same,
             passing,
             travel,
             follow,
             cross,
-            at,
             left,
             leave,
             enter,
             c,
+            x,
         );
-        made += 1;
+        p += 1;
     }
-    made
+    order[made] = c as u8;
+    move_out(zone, passing, left, leave, enter, c, 8 * c + k - 1);
+    at[c] = (k + 1) as u8;
+    made + 1
 }
 
 // The set of the carts that have steps.
@@ -73,9 +108,9 @@ fn present(steps: &[u8; 16]) -> u16
 }
 
 // How many moves are made in all after a turn of the carts, and which carts are asked in the next.
-pub struct Turn {
-    pub made: usize,
-    pub going: u16,
+struct Turn {
+    made: usize,
+    going: u16,
 }
 
 // Every cart that is not out moves on in turn as far as it may.

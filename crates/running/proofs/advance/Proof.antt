@@ -1,48 +1,143 @@
--- The loop keeps that the cart has moved on by permitted moves, each stored; it ends where its next move is not permitted.
-use Prim.Native.Nat.{_-_}
-use mathlib.Core.Path.{_∙_, sym}
-use mathlib.Core.Bool.{true≢false}
+-- The first zone is entered apart; the loop keeps where the cart has come to, by permitted moves, each stored; it ends where the cart is held, or out.
+use Prim.Native.Nat.{_-_, _<_}
+use mathlib.Core.Path.{_≡_, refl}
+use mathlib.Core.Logic.{⊎-elim}
 use native.Mathlib.Omega.{arith}
-use Rattle.moves.specs.System.{pos}
-use Rattle.crossing.specs.Tables.{crossingOf, givenOf}
-use Rattle.one_move.proofs.Steps.{running-standing}
-use Rattle.running.specs.Rounds.{Onward}
-use Rattle.running.proofs.Rounds.{onward-start, onward-end, onward-room, onward-turn, onward-less}
+use borrow.Author.Tests.{not-true, not-false}
+use Rattle.running.proofs.OneCart.{Advancing, advancing-as, steps-few, stands-few, advancing-start, first-asked, first-held, first-room, first-enterable, advancing-first, x-asked, advancing-held, entry-room, next-asked, advancing-next, out-room, out-asked, advancing-out}
+use borrow.Author.Needs.{needs}
 use Rattle.running.proofs.advance.Statement.{statement}
 use Rattle.running.proofs.advance.Tie as tie
 
 abbrev Inv-loop : tie.InvT-loop
-Inv-loop steps zone ahead same arrival passing travel follow cross at₀ left₀ leave₀ enter₀ order₀ c before made₀ at left leave enter order made = Onward (crossingOf steps zone ahead) (givenOf same arrival passing travel follow cross) at₀ at left leave enter order c before made
+Inv-loop steps zone ahead same arrival passing travel follow cross at₀ left₀ leave₀ enter₀ order₀ c before k p₀ made₀ at left leave enter order p made = (at ≡ at₀) × (0 < p) × Advancing steps zone ahead same arrival passing travel follow cross at₀ left leave enter order c before made p
 
 abbrev μ-loop : tie.MeasureT-loop
-μ-loop steps zone ahead same arrival passing travel follow cross at₀ left₀ leave₀ enter₀ order₀ c before made₀ at left leave enter order made = 9 - pos at c
+μ-loop steps zone ahead same arrival passing travel follow cross at₀ left₀ leave₀ enter₀ order₀ c before k p₀ made₀ at left leave enter order p made = k - p
 
-loop-holds : tie.Need-loop-holds Inv-loop μ-loop
-loop-holds c = onward-start _ _ _ _ _ _ _ _ _ (c .pre .0)
+element-copy-out-k : tie.Need-element-copy-out-k Inv-loop μ-loop
+element-copy-out-k c = search needs
 
-may-move-requires : tie.Need-may-move-requires Inv-loop μ-loop
-may-move-requires c κs = (running-standing _ _ _ _ _ _ (c .before .before .loop .inv .underway .running), c .before .before .before .pre .1)
+cast-k : tie.Need-cast-k Inv-loop μ-loop
+cast-k c = omega (arith, steps-few _ _ _ _ _ _ _ _ _ _ _ _ _ _ _ _ (c .before .pre .0) (c .before .pre .1))
 
-cast-order : tie.Need-cast-order Inv-loop μ-loop
-cast-order c = omega (arith, c .before .before .before .before .before .pre .1)
+element-copy-out-p : tie.Need-element-copy-out-p Inv-loop μ-loop
+element-copy-out-p c = search needs
 
-element-write-order : tie.Need-element-write-order Inv-loop μ-loop
-element-write-order c = onward-room _ _ _ _ _ _ _ _ _ _ _ (c .before .before .before .before .loop .inv) (c .before .may-move .ensures .0 (c .if1 .taken))
+cast-p : tie.Need-cast-p Inv-loop μ-loop
+cast-p c = omega (arith, stands-few _ _ _ _ _ _ _ _ _ _ _ _ _ _ _ _ (c .before .before .pre .0) (c .before .before .pre .1))
 
-make-move-requires : tie.Need-make-move-requires Inv-loop μ-loop
-make-move-requires c κs = (c .before .before .before .before .before .before .before .before .loop .inv .underway .running, c .before .before .before .before .before .before .before .before .before .pre .1, (c .before .before .before .before .before .may-move .ensures .0 (c .before .before .before .before .if1 .taken)), c .before .before .before .before .before .before .before .before .before .pre .2)
+mul-may-enter : tie.Need-mul-may-enter Inv-loop μ-loop
+mul-may-enter c = search needs
 
-add-made : tie.Need-add-made Inv-loop μ-loop
-add-made c = omega (arith, onward-room _ _ _ _ _ _ _ _ _ _ _ (c .before .before .before .before .before .before .before .before .before .loop .inv) (c .before .before .before .before .before .before .may-move .ensures .0 (c .before .before .before .before .before .if1 .taken)))
-
-loop-less : tie.Need-loop-less Inv-loop μ-loop
-loop-less c = onward-less _ _ _ _ _ _ _ _ _ _ _ (c .before .before .before .before .before .before .before .before .before .loop .inv) (c .before .before .before .before .before .before .may-move .ensures .0 (c .before .before .before .before .before .if1 .taken)) _ _ _ _ (c .make-move .ensures)
-
-loop-again : tie.Need-loop-again Inv-loop μ-loop
-loop-again c = onward-turn _ _ _ _ _ _ _ _ _ _ _ (c .before .before .before .before .before .before .before .before .before .loop .inv) (c .before .before .before .before .before .before .may-move .ensures .0 (c .before .before .before .before .before .if1 .taken)) _ _ _ _ (c .make-move .ensures)
+may-enter-requires : tie.Need-may-enter-requires Inv-loop μ-loop
+may-enter-requires c κs = first-asked _ _ _ _ _ _ _ _ _ _ _ _ _ _ _ _ (c .before .before .before .before .pre .0) (c .before .before .before .before .pre .1) (c .before .before .before .before .pre .2) (c .before .if1 .taken)
 
 returns : tie.Need-returns Inv-loop μ-loop
-returns c = onward-end _ _ _ _ _ _ _ _ _ _ _ (c .before .before .before .before .loop .inv) (λ m. true≢false (sym (c .before .may-move .ensures .1 m) ∙ c .if1 .left))
+returns c = first-held _ _ _ _ _ _ _ _ _ _ _ _ _ _ _ _ (c .before .before .before .before .before .before .pre .0) (c .before .before .before .before .before .before .pre .1) (c .before .before .before .before .before .before .pre .2) (c .before .before .before .if1 .taken) _ (c .before .may-enter .ensures) (not-true _ (c .if2 .taken))
+
+cast-order : tie.Need-cast-order Inv-loop μ-loop
+cast-order c = omega (arith, c .before .before .before .before .before .before .pre .1)
+
+element-write-order : tie.Need-element-write-order Inv-loop μ-loop
+element-write-order c = first-room _ _ _ _ _ _ _ _ _ _ _ _ _ _ _ _ (c .before .before .before .before .before .before .pre .0) (c .before .before .before .before .before .before .pre .1) (c .before .before .before .before .before .before .pre .2) (c .before .before .before .if1 .taken) _ (c .before .may-enter .ensures) (not-false _ (c .if2 .left))
+
+add-made : tie.Need-add-made Inv-loop μ-loop
+add-made c = omega (arith, first-room _ _ _ _ _ _ _ _ _ _ _ _ _ _ _ _ (c .before .before .before .before .before .before .pre .0) (c .before .before .before .before .before .before .pre .1) (c .before .before .before .before .before .before .pre .2) (c .before .before .before .if1 .taken) _ (c .before .may-enter .ensures) (not-false _ (c .if2 .left)))
+
+mul-enter-zone : tie.Need-mul-enter-zone Inv-loop μ-loop
+mul-enter-zone c = search needs
+
+mul-enter-zone-2 : tie.Need-mul-enter-zone-2 Inv-loop μ-loop
+mul-enter-zone-2 c = search needs
+
+element-copy-out-enter-zone : tie.Need-element-copy-out-enter-zone Inv-loop μ-loop
+element-copy-out-enter-zone c = search needs
+
+enter-zone-requires : tie.Need-enter-zone-requires Inv-loop μ-loop
+enter-zone-requires c κs = first-enterable _ _ _ _ _ _ _ _ _ _ _ _ _ _ _ _ (c .before .before .before .before .before .before .before .before .before .pre .0) (c .before .before .before .before .before .before .before .before .before .pre .1) (c .before .before .before .before .before .before .before .before .before .pre .2) (c .before .before .before .before .before .before .if1 .taken) _ (c .before .before .before .before .may-enter .ensures) (not-false _ (c .before .before .before .if2 .left)) (c .before .before .before .before .before .before .before .before .before .pre .3)
+
+loop-holds : tie.Need-loop-holds Inv-loop μ-loop
+loop-holds c = (
+  refl,
+  ⊎-elim (λ w. omega (arith, w .10)) (λ w. omega (arith, w .0 .left, w .3)) (c .if1 .came),
+  ⊎-elim
+      (λ w. advancing-as _ _ _ _ _ _ _ _ _ _ _ _ _ _ _ _ _ _ _ _ _ _ (advancing-first _ _ _ _ _ _ _ _ _ _ _ _ _ _ _ _ (c .before .before .before .pre .0) (c .before .before .before .pre .1) (c .before .before .before .pre .2) (w .0 .taken) _ (w .2 .ensures) (not-false _ (w .3 .left)) _ _ (w .7 .ensures .0) (w .7 .ensures .1)) (w .8) (w .9) (w .10) (w .11))
+      (λ w. advancing-as _ _ _ _ _ _ _ _ _ _ _ _ _ _ _ _ _ _ _ _ _ _ (advancing-start _ _ _ _ _ _ _ _ _ _ _ _ _ _ _ _ (c .before .before .before .pre .0) (c .before .before .before .pre .1) (c .before .before .before .pre .2)) (w .1) (w .2) (w .3) (w .4))
+      (c .if1 .came),
+)
+
+mul-x : tie.Need-mul-x Inv-loop μ-loop
+mul-x c = omega (arith, c .before .before .before .before .before .pre .1, c .before .loop .inv .2 .not-past, steps-few _ _ _ _ _ _ _ _ _ _ _ _ _ _ _ _ (c .before .before .before .before .before .pre .0) (c .before .before .before .before .before .pre .1))
+
+add-x : tie.Need-add-x Inv-loop μ-loop
+add-x c = omega (arith, c .before .before .before .before .before .before .pre .1, c .before .before .loop .inv .2 .not-past, steps-few _ _ _ _ _ _ _ _ _ _ _ _ _ _ _ _ (c .before .before .before .before .before .before .pre .0) (c .before .before .before .before .before .before .pre .1))
+
+may-enter-requires-2 : tie.Need-may-enter-requires-2 Inv-loop μ-loop
+may-enter-requires-2 c κs = x-asked _ _ _ _ _ _ _ _ _ _ _ _ _ _ _ _ _ _ (c .before .before .before .loop .inv .2) (c .before .before .loop-test .taken) _ refl
+
+cast-at : tie.Need-cast-at Inv-loop μ-loop
+cast-at c = omega (arith, c .before .before .before .before .before .loop .inv .2 .not-past, steps-few _ _ _ _ _ _ _ _ _ _ _ _ _ _ _ _ (c .before .before .before .before .before .before .before .before .before .pre .0) (c .before .before .before .before .before .before .before .before .before .pre .1))
+
+element-write-at : tie.Need-element-write-at Inv-loop μ-loop
+element-write-at c = search needs
+
+returns-2 : tie.Need-returns-2 Inv-loop μ-loop
+returns-2 c = rw (c .before .before .before .before .before .loop .inv .0) (advancing-held _ _ _ _ _ _ _ _ _ _ _ _ _ _ _ _ _ _ (c .before .before .before .before .before .loop .inv .2) (c .before .before .before .before .loop-test .taken) _ refl _ (c .before .may-enter2 .ensures) (not-true _ (c .if3 .taken)))
+
+cast-order-2 : tie.Need-cast-order-2 Inv-loop μ-loop
+cast-order-2 c = omega (arith, c .before .before .before .before .before .before .before .before .before .pre .1)
+
+element-write-order-2 : tie.Need-element-write-order-2 Inv-loop μ-loop
+element-write-order-2 c = entry-room _ _ _ _ _ _ _ _ _ _ _ _ _ _ _ _ _ _ (c .before .before .before .before .before .loop .inv .2) (c .before .before .before .before .loop-test .taken) _ refl _ (c .before .may-enter2 .ensures) (not-false _ (c .if3 .left))
+
+add-made-2 : tie.Need-add-made-2 Inv-loop μ-loop
+add-made-2 c = omega (arith, entry-room _ _ _ _ _ _ _ _ _ _ _ _ _ _ _ _ _ _ (c .before .before .before .before .before .before .loop .inv .2) (c .before .before .before .before .before .loop-test .taken) _ refl _ (c .before .before .may-enter2 .ensures) (not-false _ (c .before .if3 .left)))
+
+move-on-requires : tie.Need-move-on-requires Inv-loop μ-loop
+move-on-requires c κs = next-asked _ _ _ _ _ _ _ _ _ _ _ _ _ _ _ _ _ _ (c .before .before .before .before .before .before .before .before .before .loop .inv .2) (c .before .before .before .before .before .before .before .before .loop-test .taken) _ refl _ (c .before .before .before .before .before .may-enter2 .ensures) (not-false _ (c .before .before .before .before .if3 .left)) (c .before .before .before .before .before .before .before .before .before .loop .inv .1) (c .before .before .before .before .before .before .before .before .before .before .before .before .before .pre .3)
+
+add-p : tie.Need-add-p Inv-loop μ-loop
+add-p c = omega (arith, c .before .before .before .before .before .before .before .before .before .before .loop .inv .2 .not-past, steps-few _ _ _ _ _ _ _ _ _ _ _ _ _ _ _ _ (c .before .before .before .before .before .before .before .before .before .before .before .before .before .before .pre .0) (c .before .before .before .before .before .before .before .before .before .before .before .before .before .before .pre .1))
+
+loop-less : tie.Need-loop-less Inv-loop μ-loop
+loop-less c = search needs
+
+loop-again : tie.Need-loop-again Inv-loop μ-loop
+loop-again c = (c .before .before .before .before .before .before .before .before .before .before .loop .inv .0, omega arith, advancing-next _ _ _ _ _ _ _ _ _ _ _ _ _ _ _ _ _ _ (c .before .before .before .before .before .before .before .before .before .before .loop .inv .2) (c .before .before .before .before .before .before .before .before .before .loop-test .taken) _ refl _ (c .before .before .before .before .before .before .may-enter2 .ensures) (not-false _ (c .before .before .before .before .before .if3 .left)) (c .before .before .before .before .before .before .before .before .before .before .loop .inv .1) _ _ _ (c .move-on .ensures))
+
+cast-order-3 : tie.Need-cast-order-3 Inv-loop μ-loop
+cast-order-3 c = omega (arith, c .before .before .before .before .before .pre .1)
+
+element-write-order-3 : tie.Need-element-write-order-3 Inv-loop μ-loop
+element-write-order-3 c = out-room _ _ _ _ _ _ _ _ _ _ _ _ _ _ _ _ _ _ (c .before .loop .inv .2) (c .loop-test .left)
+
+mul-move-out : tie.Need-mul-move-out Inv-loop μ-loop
+mul-move-out c = omega (arith, c .before .before .before .before .before .before .before .before .pre .1, steps-few _ _ _ _ _ _ _ _ _ _ _ _ _ _ _ _ (c .before .before .before .before .before .before .before .before .pre .0) (c .before .before .before .before .before .before .before .before .pre .1))
+
+add-move-out : tie.Need-add-move-out Inv-loop μ-loop
+add-move-out c = omega (arith, c .before .before .before .before .before .before .before .before .pre .1, steps-few _ _ _ _ _ _ _ _ _ _ _ _ _ _ _ _ (c .before .before .before .before .before .before .before .before .pre .0) (c .before .before .before .before .before .before .before .before .pre .1))
+
+sub-move-out : tie.Need-sub-move-out Inv-loop μ-loop
+sub-move-out c = omega (arith, c .before .before .before .before .loop .inv .2 .some)
+
+move-out-requires : tie.Need-move-out-requires Inv-loop μ-loop
+move-out-requires c κs = out-asked _ _ _ _ _ _ _ _ _ _ _ _ _ _ _ _ _ _ (c .before .before .before .before .loop .inv .2) (c .before .before .before .loop-test .left)
+
+add-at : tie.Need-add-at Inv-loop μ-loop
+add-at c = omega (arith, steps-few _ _ _ _ _ _ _ _ _ _ _ _ _ _ _ _ (c .before .before .before .before .before .before .before .before .before .pre .0) (c .before .before .before .before .before .before .before .before .before .pre .1))
+
+cast-at-2 : tie.Need-cast-at-2 Inv-loop μ-loop
+cast-at-2 c = omega (arith, steps-few _ _ _ _ _ _ _ _ _ _ _ _ _ _ _ _ (c .before .before .before .before .before .before .before .before .before .pre .0) (c .before .before .before .before .before .before .before .before .before .pre .1))
+
+element-write-at-2 : tie.Need-element-write-at-2 Inv-loop μ-loop
+element-write-at-2 c = search needs
+
+add-result : tie.Need-add-result Inv-loop μ-loop
+add-result c = omega (arith, out-room _ _ _ _ _ _ _ _ _ _ _ _ _ _ _ _ _ _ (c .before .before .before .before .before .before .loop .inv .2) (c .before .before .before .before .before .loop-test .left))
+
+returns-3 : tie.Need-returns-3 Inv-loop μ-loop
+returns-3 c = rw (c .before .before .before .before .before .before .loop .inv .0) (advancing-out _ _ _ _ _ _ _ _ _ _ _ _ _ _ _ _ _ _ (c .before .before .before .before .before .before .loop .inv .2) (c .before .before .before .before .before .loop-test .left) _ _ (c .before .move-out .ensures))
 
 pub advance-spec : {M : Type 1} → statement M
 advance-spec =
@@ -50,12 +145,42 @@ advance-spec =
     (tie.spec
     Inv-loop
     μ-loop
-    loop-holds
-    may-move-requires
+    element-copy-out-k
+    cast-k
+    element-copy-out-p
+    cast-p
+    mul-may-enter
+    may-enter-requires
+    returns
     cast-order
     element-write-order
-    make-move-requires
     add-made
+    mul-enter-zone
+    mul-enter-zone-2
+    element-copy-out-enter-zone
+    enter-zone-requires
+    loop-holds
+    mul-x
+    add-x
+    may-enter-requires-2
+    cast-at
+    element-write-at
+    returns-2
+    cast-order-2
+    element-write-order-2
+    add-made-2
+    move-on-requires
+    add-p
     loop-less
     loop-again
-    returns)
+    cast-order-3
+    element-write-order-3
+    mul-move-out
+    add-move-out
+    sub-move-out
+    move-out-requires
+    add-at
+    cast-at-2
+    element-write-at-2
+    add-result
+    returns-3)

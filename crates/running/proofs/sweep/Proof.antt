@@ -22,7 +22,7 @@ rest-requires : tie.Need-rest-requires Inv-loop μ-loop
 rest-requires c κs = search needs
 
 advance-requires : tie.Need-advance-requires Inv-loop μ-loop
-advance-requires c κs = (c .before .before .before .before .before .before .before .before .loop .inv .underway, c .before .before .before .before .before .before .lowest .ensures .0, c .before .before .before .before .before .before .before .before .before .pre .2)
+advance-requires c κs = (c .before .before .before .before .before .before .before .before .loop .inv .underway, c .before .before .before .before .before .before .lowest .ensures .0, c .before .before .before .before .before .before .before .before .loop .inv .inside-is _ .0 (c .before .before .before .before .before .before .before .before .loop .inv .not-out _ (c .before .before .before .before .before .before .lowest .ensures .1 .member)), c .before .before .before .before .before .before .before .before .before .pre .2)
 
 element-copy-out-if1 : tie.Need-element-copy-out-if1 Inv-loop μ-loop
 element-copy-out-if1 c = search needs

@@ -1,9 +1,9 @@
 -- Each way out says whether the move is permitted, by the law for its test.
 use native.Mathlib.Omega.{arith}
-use Rattle.one_move.proofs.Permission.{step-few, zone-few, into-says, absent-says, out-says}
+use Rattle.asking.proofs.Permission.{step-few, zone-few, into-says, absent-says, out-says}
 use borrow.Author.Needs.{needs}
-use Rattle.one_move.proofs.may_move.Statement.{statement}
-use Rattle.one_move.proofs.may_move.Tie as tie
+use Rattle.asking.proofs.may_move.Statement.{statement}
+use Rattle.asking.proofs.may_move.Tie as tie
 
 element-copy-out-if1 : tie.Need-element-copy-out-if1
 element-copy-out-if1 c = search needs

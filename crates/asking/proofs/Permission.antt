@@ -16,7 +16,7 @@ use Rattle.routes.specs.Moves.{system}
 use Rattle.crossing.specs.Tables.{crossingOf}
 use Rattle.crossing.proofs.Tables.{steps-is, zone-is}
 use Rattle.crossing.proofs.Permitted.{permitted-within, into-permitted, out-permitted}
-use Rattle.one_move.specs.Running.{Standing}
+use Rattle.asking.specs.Standing.{Standing}
 
 module _ (stepTable zoneTable aheadTable at left : List ℕ) (standing : Standing (crossingOf stepTable zoneTable aheadTable) at left) (c : ℕ) (l : c < 16) where
   abbrev X : Crossing

@@ -1,11 +1,6 @@
-// Runs document 01's examples 1 to 15, the sheets of vectors/cut-groups.txt, every crossing of a
-// tiny size and many random cases through the independent program, and prints how many answers of
-// each number it saw.
-//
-//   g++ -std=c++17 -O2 -Wall -Wextra -o selftest selftest.cpp
-//   ./selftest [small cases] [dense cases] [large cases] [seed] [tiny: 0 or 1] [vectors file]
+// Holds the independent program to document 01's examples 1 to 15, to the sheets of cut-groups.txt, and to what document 01 says of every answer.
+// Run from the repository's folder, by compare/independent/run.
 
-#include <chrono>
 #include <cstdio>
 #include <cstdlib>
 #include <fstream>
@@ -23,27 +18,11 @@ static uint64_t checks = 0;
 
 static void check(bool condition, const std::string& what) {
     checks++;
-    if (!condition) throw std::logic_error("selftest: " + what);
+    if (!condition) throw std::logic_error(what);
 }
 
 static bool same_record(const Record& a, const Record& b) {
     return a.positions == b.positions && a.made == b.made;
-}
-
-// ---------------------------------------------------------------------------------------------
-// How many answers of each number each operation gave
-// ---------------------------------------------------------------------------------------------
-
-struct Tally {
-    uint64_t sheet[29] = {}, plan[29] = {}, write[29] = {}, list[29] = {}, judge[29] = {}, planning[29] = {},
-        move[29] = {}, program[29] = {};
-    uint64_t cuts = 0, sheets_cut = 0, rings[17] = {}, cases = 0;
-};
-static Tally tally;
-
-static void count(uint64_t* row, uint32_t number) {
-    check(number <= 28, "number at most 28");
-    row[number]++;
 }
 
 // ---------------------------------------------------------------------------------------------
@@ -283,13 +262,10 @@ static void check_whole_run(Random& random, const Case& c) {
 }
 
 static void run_case(Random& random, const Case& c, bool whole_run) {
-    tally.cases++;
     const SheetAnswer sheet = read_sheet(c.sheet);
-    count(tally.sheet, sheet.number);
     check(sheet.number <= 14, "reading a sheet has 1 to 14");
 
     const PlanAnswer plan = read_plan(c.sheet, c.plan);
-    count(tally.plan, plan.number);
     check(plan.number <= 21, "reading a plan has 1 to 21");
     if (sheet.number != 0) {
         check(plan.number == sheet.number && plan.place == sheet.place, "the sheet comes fully before the plan");
@@ -297,7 +273,6 @@ static void run_case(Random& random, const Case& c, bool whole_run) {
     check(plan.number == 0 || plan.lists.empty(), "refused: no lists");
 
     const WriteAnswer write = write_plan(c.sheet, c.plan, c.write_room);
-    count(tally.write, write.number);
     check(write.number <= 21 || write.number == 28, "writing has 1 to 21 and 28");
     check(write.room.size() == c.write_room.size(), "the room keeps its length");
     if (write.number != 0) {
@@ -312,9 +287,8 @@ static void run_case(Random& random, const Case& c, bool whole_run) {
         }
     }
 
-    for (uint32_t zone : c.list_zones) {
+    for (uint64_t zone : c.list_zones) {
         const ListAnswer list = list_zone(c.sheet, c.plan, zone);
-        count(tally.list, list.number);
         check(list.number <= 21 || list.number == 27, "the list operation has 1 to 21 and 27");
         if (list.number != 0) check(list.position == 0 && list.length == 0, "refused: empty list");
         if (list.number == 0) {
@@ -324,14 +298,11 @@ static void run_case(Random& random, const Case& c, bool whole_run) {
     }
 
     const JudgeAnswer verdict = judge(c.sheet, c.plan, c.words);
-    count(tally.judge, verdict.number);
     check(verdict.number <= 22 || verdict.number == 28, "judging has 1 to 22 and 28");
     check((verdict.number == 22) == !verdict.ring.empty(), "a ring exactly with 22");
-    if (verdict.number == 22) tally.rings[verdict.ring.size()]++;
     if (verdict.number != 0) check(verdict.words == c.words && verdict.finish == 0 && verdict.moves == 0, "refused");
 
     const PlanningAnswer planning = make_plan(c.sheet, c.planning_room);
-    count(tally.planning, planning.number);
     check(planning.number <= 14 || planning.number == 28, "planning has 1 to 14 and 28");
     if (planning.number != 0) {
         check(planning.room == c.planning_room && planning.length == 0 && planning.finish == 0, "refused: room as lent");
@@ -342,13 +313,10 @@ static void run_case(Random& random, const Case& c, bool whole_run) {
         for (size_t i = planning.length; i < planning.room.size(); i++) {
             check(planning.room[i] == c.planning_room[i], "planning: bytes beyond");
         }
-        tally.cuts += planning.cuts;
-        if (planning.cuts > 0) tally.sheets_cut++;
     }
 
     for (const MoveRequest& request : c.move_requests) {
         const MoveAnswer move = move_cart(c.sheet, c.plan, request.record, request.cart);
-        count(tally.move, move.number);
         check(move.number <= 26, "moving has 1 to 26");
         check((move.number == 26) == (move.ahead > 0), "carts ahead exactly with 26");
         if (move.number != 0) check(same_record(move.record, request.record), "refused: record as lent");
@@ -356,11 +324,6 @@ static void run_case(Random& random, const Case& c, bool whole_run) {
     }
 
     const std::string text = judge_program(c.standard_input);
-    if (text.substr(0, 8) == "refused ") {
-        count(tally.program, static_cast<uint32_t>(std::atoi(text.c_str() + 8)));
-    } else {
-        count(tally.program, 0);
-    }
     check(text.back() == '\n', "each line ends with a line feed");
 
     check_scan(random, c);
@@ -371,145 +334,61 @@ static void describe(const Case& c) {
     std::fprintf(stderr, "case: %s\nsheet %s\nplan %s\nstdin %s\n", c.kind.c_str(), hex(c.sheet).c_str(),
                  hex(c.plan).c_str(), hex(c.standard_input).c_str());
     for (const MoveRequest& request : c.move_requests) {
-        std::fprintf(stderr, "record");
+        std::fprintf(stderr, "cart %llu record", static_cast<unsigned long long>(request.cart));
         for (uint8_t position : request.record.positions) std::fprintf(stderr, " %u", position);
-        std::fprintf(stderr, " made %u cart %u\n", request.record.made, request.cart);
+        std::fprintf(stderr, " made %u\n", request.record.made);
     }
 }
 
 // ---------------------------------------------------------------------------------------------
+// All of it
+// ---------------------------------------------------------------------------------------------
 
-static double seconds_since(std::chrono::steady_clock::time_point start) {
-    return std::chrono::duration<double>(std::chrono::steady_clock::now() - start).count();
-}
-
-static void run_random(const char* name, Random& random, uint64_t cases_wanted, Case (*make)(Random&)) {
-    const auto start = std::chrono::steady_clock::now();
-    for (uint64_t i = 0; i < cases_wanted; i++) {
+static void run_random(const char* name, Random& random, uint32_t cases_wanted, Case (*make)(Random&)) {
+    for (uint32_t i = 0; i < cases_wanted; i++) {
         Case c;
         try {
             c = make(random);
             run_case(random, c, i % 10 == 0);
         } catch (const std::exception& error) {
-            std::fprintf(stderr, "FAILED in %s case %llu: %s\n", name, static_cast<unsigned long long>(i), error.what());
+            std::fprintf(stderr, "selftest: failed in %s case %u: %s\n", name, i, error.what());
             describe(c);
             std::exit(1);
         }
     }
-    std::printf("%s: %llu cases, %.1f s\n", name, static_cast<unsigned long long>(cases_wanted), seconds_since(start));
+    std::printf("selftest: %u %s cases\n", cases_wanted, name);
 }
 
-static void run_tiny(Random& random) {
-    for (uint32_t m = 2; m <= 3; m++) {
-        for (uint32_t n = 2; n <= 3; n++) {
-            const auto start = std::chrono::steady_clock::now();
-            uint64_t sheets = 0, plans = 0, accepted = 0, locked = 0, wrong_lane = 0;
-            for (const std::vector<uint32_t>& lanes : cases::all_lanes(m)) {
-                cases::for_every_tiny_crossing(random, m, n, lanes,
-                                               [&](const Sheet& sheet, const Lists& lists, bool first) {
-                    const Bytes sheet_bytes = cases::sheet_to_bytes(sheet);
-                    const Bytes plan_bytes = cases::plan_to_bytes(lists);
-                    if (first) {
-                        sheets++;
-                        const PlanningAnswer planning = make_plan(sheet_bytes, Bytes(156, 0));
-                        check(planning.number == 0, "tiny: planned");
-                        tally.cuts += planning.cuts;
-                        if (planning.cuts > 0) tally.sheets_cut++;
-                    }
-                    plans++;
-                    const JudgeAnswer answer = judge(sheet_bytes, plan_bytes, std::vector<uint32_t>(128, 5));
-                    check(answer.number == 0 || answer.number == 21 || answer.number == 22, "tiny: judged");
-                    if (answer.number == 0) accepted++;
-                    if (answer.number == 21) wrong_lane++;
-                    if (answer.number == 22) locked++;
-                });
-            }
-            std::printf("tiny %u carts, %u zones: %llu sheets, %llu plans: %llu accepted, %llu locked, %llu "
-                        "with a lane wrong, %.1f s\n",
-                        m, n, static_cast<unsigned long long>(sheets), static_cast<unsigned long long>(plans),
-                        static_cast<unsigned long long>(accepted), static_cast<unsigned long long>(locked),
-                        static_cast<unsigned long long>(wrong_lane), seconds_since(start));
-        }
-    }
-}
-
-static void run_vectors(const std::string& file) {
-    std::ifstream input(file);
+static void run_cut_groups() {
+    std::ifstream input("compare/independent/cut-groups.txt");
     std::string line;
     uint32_t sheets = 0;
     while (std::getline(input, line)) {
         if (line.empty() || line[0] == '#') continue;
         const size_t space = line.find(' ');
         const uint32_t wanted = static_cast<uint32_t>(std::atoi(line.substr(0, space).c_str()));
-        const Bytes sheet = cases::from_hex(line.substr(space + 1));
-        const PlanningAnswer planning = make_plan(sheet, Bytes(156, 0));
-        check(planning.number == 0, "vectors: a valid sheet");
-        std::printf("vectors: %u cuts (file says %u), finish %u, plan %s\n", planning.cuts, wanted, planning.finish,
-                    hex(Bytes(planning.room.begin(), planning.room.begin() + planning.length)).c_str());
-        check(planning.cuts == wanted, "vectors: cuts as the file says");
+        const PlanningAnswer planning = make_plan(cases::from_hex(line.substr(space + 1)), Bytes(156, 0));
+        check(planning.number == 0, "cut groups: a valid sheet");
+        check(planning.cuts == wanted, "cut groups: as often as the file says");
         sheets++;
     }
-    std::printf("vectors: %u sheets\n", sheets);
+    check(sheets > 0, "cut groups: some sheets");
+    std::printf("selftest: %u sheets with cut groups\n", sheets);
 }
 
-static uint64_t argument(int argc, char** argv, int index, uint64_t otherwise) {
-    return argc > index ? std::strtoull(argv[index], nullptr, 10) : otherwise;
-}
-
-int main(int argc, char** argv) {
-    const uint64_t small = argument(argc, argv, 1, 20000);
-    const uint64_t dense = argument(argc, argv, 2, 1000);
-    const uint64_t large = argument(argc, argv, 3, 200);
-    const uint64_t seed = argument(argc, argv, 4, 1);
-    const uint64_t tiny = argument(argc, argv, 5, 1);
-    const std::string vectors = argc > 6 ? argv[6] : "wip/independent/cut-groups.txt";
-    const auto start = std::chrono::steady_clock::now();
-    Random random(seed);
+int main() {
     try {
         examples();
-        std::printf("examples 1 to 15: as document 01 says\n");
-        run_vectors(vectors);
-        if (tiny != 0) run_tiny(random);
+        std::printf("selftest: examples 1 to 15 as document 01 says\n");
+        run_cut_groups();
     } catch (const std::exception& error) {
-        std::fprintf(stderr, "FAILED: %s\n", error.what());
+        std::fprintf(stderr, "selftest: failed: %s\n", error.what());
         return 1;
     }
-    run_random("small", random, small, cases::random_small_case);
-    run_random("dense", random, dense, cases::random_dense_case);
-    run_random("large", random, large, cases::random_large_case);
-
-    std::printf("\nnumber      sheet       plan      write       list      judge   planning       move    program\n");
-    bool all_seen = true;
-    for (uint32_t number = 0; number <= 28; number++) {
-        const uint64_t row[8] = {tally.sheet[number], tally.plan[number], tally.write[number], tally.list[number],
-                                 tally.judge[number], tally.planning[number], tally.move[number], tally.program[number]};
-        std::printf("%6u", number);
-        uint64_t sum = 0;
-        for (uint64_t value : row) {
-            std::printf(" %10llu", static_cast<unsigned long long>(value));
-            sum += value;
-        }
-        std::printf("\n");
-        if (sum == 0) all_seen = false;
-    }
-    std::printf("\nrings by length:");
-    for (uint32_t length = 2; length <= 16; length++) {
-        if (tally.rings[length] > 0) std::printf(" %u: %llu", length, static_cast<unsigned long long>(tally.rings[length]));
-    }
-    const DoubleCheckCounts& d = double_check_counts;
-    std::printf("\nplanning cut groups %llu times in %llu sheets\n", static_cast<unsigned long long>(tally.cuts),
-                static_cast<unsigned long long>(tally.sheets_cut));
-    std::printf("double checks: %llu verdicts (%llu locked), %llu crossings searched, %llu states, %llu times two ways, "
-                "%llu spare times two ways, %llu records (%llu by search)\n",
-                static_cast<unsigned long long>(d.verdicts), static_cast<unsigned long long>(d.locked),
-                static_cast<unsigned long long>(d.searches), static_cast<unsigned long long>(d.states),
-                static_cast<unsigned long long>(d.times), static_cast<unsigned long long>(d.spare),
-                static_cast<unsigned long long>(d.records), static_cast<unsigned long long>(d.records_searched));
-    std::printf("checks in this file: %llu; all %.1f s\n", static_cast<unsigned long long>(checks), seconds_since(start));
-    if (!all_seen && small >= 5000) {
-        std::fprintf(stderr, "FAILED: some number was never seen\n");
-        return 1;
-    }
-    std::printf("selftest done, no failure\n");
+    Random random(1);
+    run_random("small", random, 5000, cases::random_small_case);
+    run_random("dense", random, 200, cases::random_dense_case);
+    run_random("large", random, 40, cases::random_large_case);
+    std::printf("selftest: %llu checks, none failed\n", static_cast<unsigned long long>(checks));
     return 0;
 }

@@ -1,10 +1,8 @@
-// An independent program for document 01 ("What the build covers, and its rules").
-// Written from document 01 and, where it refers to it, document 001 (Lin and others 2019).
-// Plain on purpose. Lines in quotation marks are sentences of document 01, unless they are
-// marked "001", which is the paper.
+// Every operation of document 01 on any bytes, written from document 01 alone and plain on purpose.
 //
-// The double checks (search over all runs, times two ways, resource conflict graph) are inside
-// the operations. If one fails, the operation throws independent::DoubleCheckFailed.
+// Lines in quotation marks are sentences of document 01, unless they are marked "001", which is the
+// paper it refers to (Lin and others 2019). The double checks (search over all runs, times two ways,
+// resource conflict graph) are inside the operations; one that fails throws DoubleCheckFailed.
 
 #ifndef INDEPENDENT_HPP
 #define INDEPENDENT_HPP
@@ -24,10 +22,10 @@ using Lists = std::vector<std::vector<uint32_t>>;      // for each zone its cart
 using Positions = std::vector<uint32_t>;               // for each cart 0, k, or steps + 1
 
 // Crossings with more states than this are not searched run by run (the other checks stay).
-inline uint64_t search_limit = 3000;
+constexpr uint64_t search_limit = 3000;
 // Plannings with more steps than this are not worked out two ways in every round.
-inline uint64_t planning_check_steps = 24;
-// How many double checks were made, to be printed by a harness.
+constexpr uint64_t planning_check_steps = 24;
+// How many double checks this thread made.
 struct DoubleCheckCounts {
     uint64_t searches = 0;             // crossings searched over all runs
     uint64_t states = 0;               // states reached in them
@@ -37,8 +35,19 @@ struct DoubleCheckCounts {
     uint64_t spare = 0;                // spare times two ways
     uint64_t records = 0;              // records tested for being reachable
     uint64_t records_searched = 0;     // of these, compared with the search
+
+    void add(const DoubleCheckCounts& other) {
+        searches += other.searches;
+        states += other.states;
+        verdicts += other.verdicts;
+        locked += other.locked;
+        times += other.times;
+        spare += other.spare;
+        records += other.records;
+        records_searched += other.records_searched;
+    }
 };
-inline DoubleCheckCounts double_check_counts;
+inline thread_local DoubleCheckCounts double_check_counts;
 
 class DoubleCheckFailed : public std::logic_error {
 public:
@@ -109,7 +118,7 @@ struct PlanAnswer {
     uint32_t place = 0;
     Lists lists;                       // empty on refusal
     std::vector<uint32_t> list_places; // where in the plan each zone's first cart number stands
-    Sheet sheet;                       // for convenience: the sheet it was read for, empty on refusal
+    Sheet sheet;                       // the sheet it was read for, empty on refusal
 };
 struct WriteAnswer {
     uint32_t number = 0;
@@ -403,7 +412,7 @@ inline WriteAnswer write_plan(const Bytes& sheet_bytes, const Bytes& plan_bytes,
 
 // "the list operation 1 to 21 and 27"; "The list operation hands back the zone's passing list as
 // the very part of the plan lent."
-inline ListAnswer list_zone(const Bytes& sheet_bytes, const Bytes& plan_bytes, uint32_t zone) {
+inline ListAnswer list_zone(const Bytes& sheet_bytes, const Bytes& plan_bytes, uint64_t zone) {
     ListAnswer answer;
     const PlanAnswer plan = read_plan(sheet_bytes, plan_bytes);
     if (plan.number != 0) {
@@ -1037,18 +1046,15 @@ inline Verdict work_out_verdict(const Sheet& sheet, const Lists& lists) {
 // The same, remembering the last crossing only, because many requests come for one plan.
 inline const Verdict& verdict_of(const Bytes& sheet_bytes, const Bytes& plan_bytes,
                                  const Sheet& sheet, const Lists& lists) {
-    static bool have_last = false;
-    static Bytes last_sheet, last_plan;
-    static uint64_t last_limit = 0;
-    static Verdict last;
-    const bool same = have_last && last_sheet == sheet_bytes && last_plan == plan_bytes
-                      && last_limit == search_limit;
+    static thread_local bool have_last = false;
+    static thread_local Bytes last_sheet, last_plan;
+    static thread_local Verdict last;
+    const bool same = have_last && last_sheet == sheet_bytes && last_plan == plan_bytes;
     if (!same) {
         have_last = false;
         last = work_out_verdict(sheet, lists);
         last_sheet = sheet_bytes;
         last_plan = plan_bytes;
-        last_limit = search_limit;
         have_last = true;
     }
     return last;
@@ -1515,7 +1521,7 @@ inline bool record_is_reached(const Sheet& sheet, const Lists& lists, const Verd
 }
 
 inline MoveAnswer move_cart(const Bytes& sheet_bytes, const Bytes& plan_bytes, const Record& record,
-                            uint32_t cart) {
+                            uint64_t requested) {
     MoveAnswer answer;
     answer.record = record;              // "changed only by a permitted move"
     // "Moving has 1 to 26."
@@ -1536,10 +1542,11 @@ inline MoveAnswer move_cart(const Bytes& sheet_bytes, const Bytes& plan_bytes, c
         return answer;
     }
     // "cart number m or more"
-    if (cart >= plan.sheet.carts.size()) {
+    if (requested >= plan.sheet.carts.size()) {
         answer.number = 24;
         return answer;
     }
+    const uint32_t cart = static_cast<uint32_t>(requested);
     Positions positions;
     for (uint32_t c = 0; c < plan.sheet.carts.size(); c++) positions.push_back(record.positions[c]);
     // "cart is already out"
@@ -1647,15 +1654,14 @@ inline std::string number_and_place(const char* operation, uint32_t number, uint
     return std::string(operation) + " " + std::to_string(number) + " " + std::to_string(place);
 }
 
-// sheet NUMBER PLACE zones N (FOLLOW CROSS)... carts M (lane arrival steps (zone passing travel)...)...
-inline std::string to_text(const SheetAnswer& a) {
-    std::string text = number_and_place("sheet", a.number, a.place);
-    text += " zones " + std::to_string(a.sheet.zones.size());
-    for (const Zone& zone : a.sheet.zones) {
+// zones N (FOLLOW CROSS)... carts M (lane arrival steps (zone passing travel)...)...
+inline std::string to_text(const Sheet& sheet) {
+    std::string text = "zones " + std::to_string(sheet.zones.size());
+    for (const Zone& zone : sheet.zones) {
         text += " " + std::to_string(zone.follow_gap) + " " + std::to_string(zone.cross_gap);
     }
-    text += " carts " + std::to_string(a.sheet.carts.size());
-    for (const Cart& cart : a.sheet.carts) {
+    text += " carts " + std::to_string(sheet.carts.size());
+    for (const Cart& cart : sheet.carts) {
         text += " lane " + std::to_string(cart.lane) + " arrival " + std::to_string(cart.arrival)
                 + " steps " + std::to_string(cart.steps.size());
         for (const Step& step : cart.steps) {
@@ -1666,15 +1672,20 @@ inline std::string to_text(const SheetAnswer& a) {
     return text;
 }
 
-// plan NUMBER PLACE zones N count carts... count carts...
+// sheet NUMBER PLACE and the sheet
+inline std::string to_text(const SheetAnswer& a) {
+    return number_and_place("sheet", a.number, a.place) + " " + to_text(a.sheet);
+}
+
+// plan NUMBER PLACE lists N (at PLACE count carts...)... and the sheet
 inline std::string to_text(const PlanAnswer& a) {
     std::string text = number_and_place("plan", a.number, a.place);
-    text += " zones " + std::to_string(a.lists.size());
-    for (const std::vector<uint32_t>& list : a.lists) {
-        text += " " + std::to_string(list.size());
-        for (uint32_t cart : list) text += " " + std::to_string(cart);
+    text += " lists " + std::to_string(a.lists.size());
+    for (size_t z = 0; z < a.lists.size(); z++) {
+        text += " at " + std::to_string(a.list_places[z]) + " " + std::to_string(a.lists[z].size());
+        for (uint32_t cart : a.lists[z]) text += " " + std::to_string(cart);
     }
-    return text;
+    return text + " " + to_text(a.sheet);
 }
 
 // write NUMBER PLACE length L room HEX

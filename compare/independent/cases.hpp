@@ -1,5 +1,4 @@
-// Generators of inputs for the independent program (and for the program under test).
-// Everything is made from a seed; the same seed gives the same inputs.
+// Inputs for every operation, made from a seed; the same seed gives the same inputs.
 
 #ifndef CASES_HPP
 #define CASES_HPP
@@ -226,7 +225,7 @@ inline Sheet random_sheet(Random& random, const Shape& shape) {
     return sheet;
 }
 
-// Sheets after the manner of vectors/cut-groups.txt: all lanes but few different, all values
+// Sheets after the manner of cut-groups.txt: all lanes but few different, all values
 // multiples of 50 or 100, long routes over few zones. Planning cuts groups now and then.
 inline Sheet random_sheet_for_cuts(Random& random) {
     Sheet sheet;
@@ -611,17 +610,16 @@ inline Bytes spoilt_plan(Random& random, const Sheet& sheet, Lists lists) {
     }
 }
 
-// A crossing with one to three rings, each over zones of its own, and carts that wait for a ring
-// without being in it. Cart numbers and zone numbers are mixed. Gives the sheet and its plan.
-inline Sheet sheet_with_rings(Random& random, Lists& lists) {
+// A crossing with so many rings, each over zones of its own, and carts that wait for a ring without
+// being in it. Cart numbers and zone numbers are mixed. Gives the sheet and its plan.
+inline Sheet sheet_with_rings(Random& random, uint32_t rings, uint32_t longest, Lists& lists) {
     struct Planned {
         std::vector<uint32_t> route;
     };
     std::vector<Planned> carts;
     std::vector<std::vector<size_t>> passing;                  // for each zone the planned carts in order
-    const uint32_t rings = random.between(1, 3);
     for (uint32_t r = 0; r < rings; r++) {
-        const uint32_t length = random.between(2, 3);
+        const uint32_t length = random.between(2, longest);
         const uint32_t first_zone = static_cast<uint32_t>(passing.size());
         const size_t first_cart = carts.size();
         for (uint32_t i = 0; i < length; i++) {
@@ -630,7 +628,7 @@ inline Sheet sheet_with_rings(Random& random, Lists& lists) {
             passing.push_back({first_cart + i, first_cart + (i + length - 1) % length});
         }
     }
-    const uint32_t others = random.below(3);
+    const uint32_t others = random.below(std::min(3u, 17 - static_cast<uint32_t>(carts.size())));
     for (uint32_t i = 0; i < others; i++) {
         const uint32_t zone = random.below(static_cast<uint32_t>(passing.size()));
         std::vector<size_t>& list = passing[zone];
@@ -759,7 +757,7 @@ inline Record random_record(Random& random) {
 
 struct MoveRequest {
     Record record;
-    uint32_t cart = 0;
+    uint64_t cart = 0;
 };
 struct Case {
     std::string kind;
@@ -768,10 +766,21 @@ struct Case {
     Bytes write_room;                       // the room as it is lent
     Bytes planning_room;
     std::vector<uint32_t> words;            // the words as they are lent
-    std::vector<uint32_t> list_zones;       // zone numbers asked for, 0 to 255
-    std::vector<MoveRequest> move_requests; // cart numbers 0 to 255
+    std::vector<uint64_t> list_zones;       // zone numbers asked for, any
+    std::vector<MoveRequest> move_requests; // cart numbers, any
     Bytes standard_input;                   // of the judge program
 };
+
+// A zone or cart number that is too high: at its limit, of one byte, or of more bits than a byte or a word has.
+inline uint64_t number_from(Random& random, uint32_t limit) {
+    switch (random.below(8)) {
+        case 0: return limit;
+        case 1: return 256 + random.below(limit + 1);
+        case 2: return (uint64_t{1} << 32) + random.below(limit + 1);
+        case 3: return ~uint64_t{0} - random.below(2);
+        default: return random.between(limit, 255);
+    }
+}
 
 inline Bytes random_room(Random& random, uint32_t length) {
     Bytes room;
@@ -869,12 +878,12 @@ inline void add_other_inputs(Random& random, Case& c) {
     const uint32_t m = static_cast<uint32_t>(plan.sheet.carts.size());
     for (uint32_t z = 0; z < n; z++) c.list_zones.push_back(z);
     c.list_zones.push_back(n);
-    c.list_zones.push_back(random.between(n, 255));
+    c.list_zones.push_back(number_from(random, n));
     c.move_requests.push_back(MoveRequest{Record(), random.below(m + 1)});
     for (int i = 0; i < 4; i++) {
         const Record record = record_by_random_run(random, plan.sheet, plan.lists);
         c.move_requests.push_back(MoveRequest{record, random.below(m + 1)});
-        if (random.one_in(8)) c.move_requests.push_back(MoveRequest{record, random.between(m, 255)});
+        if (random.one_in(8)) c.move_requests.push_back(MoveRequest{record, number_from(random, m)});
         c.move_requests.push_back(MoveRequest{spoilt_record(random, plan.sheet, record), random.below(m + 1)});
     }
     if (random.one_in(10)) c.move_requests.push_back(MoveRequest{random_record(random), random.below(18)});
@@ -882,7 +891,6 @@ inline void add_other_inputs(Random& random, Case& c) {
 
 inline Bytes random_plan(Random& random, const Sheet& sheet, const Bytes& sheet_bytes, std::string& kind) {
     switch (random.below(13)) {
-        case 12: kind += " careless, bytes after"; return with_bytes_after(random, plan_to_bytes(careless_lists(random, sheet)));
         case 0: kind += " one order"; return plan_to_bytes(one_order_lists(random, sheet));
         case 1:
         case 2: kind += " nearly one order"; return plan_to_bytes(nearly_one_order_lists(random, sheet));
@@ -890,6 +898,7 @@ inline Bytes random_plan(Random& random, const Sheet& sheet, const Bytes& sheet_
         case 4: kind += " spoilt"; return spoilt_plan(random, sheet, shuffled_lists(random, sheet));
         case 5: kind += " damaged"; return damaged(random, plan_to_bytes(shuffled_lists(random, sheet)));
         case 6: kind += " planned"; return plan_to_bytes(planned_lists(sheet_bytes));
+        case 7: kind += " careless, bytes after"; return with_bytes_after(random, plan_to_bytes(careless_lists(random, sheet)));
         default: kind += " shuffled"; return plan_to_bytes(shuffled_lists(random, sheet));
     }
 }
@@ -905,24 +914,12 @@ inline Case case_with_valid_sheet(Random& random, const Shape& shape) {
     return c;
 }
 
-// Any case of this shape: about one in five has something wrong with the sheet.
-inline Case random_case(Random& random, const Shape& shape) {
-    if (!random.one_in(5)) return case_with_valid_sheet(random, shape);
+// A sheet with something wrong, most of the time, and a plan that would have fitted it.
+inline Case case_with_damaged_sheet(Random& random, const Shape& shape) {
     Case c;
     const Sheet sheet = random_sheet(random, shape);
     c.plan = plan_to_bytes(shuffled_lists(random, sheet));
     switch (random.below(8)) {
-        case 6:
-            c.kind = "sheet with a count at or past its limit";
-            c.sheet = sheet_to_bytes(sheet_with_count_at_limit(random, sheet));
-            if (independent::read_sheet(c.sheet).number == 0) {
-                c.plan = plan_to_bytes(shuffled_lists(random, independent::read_sheet(c.sheet).sheet));
-            }
-            break;
-        case 7:
-            c.kind = "sheet with a late front cart, bytes after";
-            c.sheet = with_bytes_after(random, sheet_to_bytes(sheet_with_late_front(random, sheet)));
-            break;
         case 0:
             c.kind = "damaged sheet";
             c.sheet = damaged(random, sheet_to_bytes(sheet));
@@ -944,6 +941,17 @@ inline Case random_case(Random& random, const Shape& shape) {
             c.sheet = damaged(random, damaged(random, sheet_to_bytes(sheet)));
             if (random.one_in(2)) c.plan = damaged(random, c.plan);
             break;
+        case 5:
+            c.kind = "sheet with a count at or past its limit";
+            c.sheet = sheet_to_bytes(sheet_with_count_at_limit(random, sheet));
+            if (independent::read_sheet(c.sheet).number == 0) {
+                c.plan = plan_to_bytes(shuffled_lists(random, independent::read_sheet(c.sheet).sheet));
+            }
+            break;
+        case 6:
+            c.kind = "sheet with a late front cart, bytes after";
+            c.sheet = with_bytes_after(random, sheet_to_bytes(sheet_with_late_front(random, sheet)));
+            break;
         default:
             c.kind = "noise";
             c.sheet = noise(random, 60);
@@ -954,12 +962,53 @@ inline Case random_case(Random& random, const Shape& shape) {
     return c;
 }
 
+// A valid sheet and a plan with something wrong, most of the time.
+inline Case case_with_damaged_plan(Random& random, const Shape& shape) {
+    Case c;
+    const Sheet sheet = random_sheet(random, shape);
+    c.sheet = sheet_to_bytes(sheet);
+    switch (random.below(8)) {
+        case 0:
+            c.kind = "plan with a lane wrong";
+            c.plan = plan_to_bytes(careless_lists(random, sheet));
+            break;
+        case 1:
+            c.kind = "plan with a lane wrong, bytes after";
+            c.plan = with_bytes_after(random, plan_to_bytes(careless_lists(random, sheet)));
+            break;
+        case 2:
+            c.kind = "plan damaged twice";
+            c.plan = damaged(random, spoilt_plan(random, sheet, shuffled_lists(random, sheet)));
+            break;
+        case 3:
+            c.kind = "plan of noise";
+            c.plan = noise(random, 30);
+            break;
+        case 4:
+        case 5:
+            c.kind = "spoilt plan";
+            c.plan = spoilt_plan(random, sheet, shuffled_lists(random, sheet));
+            break;
+        default:
+            c.kind = "damaged plan";
+            c.plan = damaged(random, plan_to_bytes(shuffled_lists(random, sheet)));
+            break;
+    }
+    add_other_inputs(random, c);
+    return c;
+}
+
+// Any case of this shape: about one in five has something wrong with the sheet.
+inline Case random_case(Random& random, const Shape& shape) {
+    return random.one_in(5) ? case_with_damaged_sheet(random, shape) : case_with_valid_sheet(random, shape);
+}
+
 // Rings, most of them still there after the plan was perhaps damaged a little.
-inline Case case_with_rings(Random& random) {
+inline Case case_with_rings(Random& random, uint32_t rings, uint32_t longest) {
     Case c;
     c.kind = "rings";
     Lists lists;
-    const Sheet sheet = sheet_with_rings(random, lists);
+    const Sheet sheet = sheet_with_rings(random, rings, longest, lists);
     if (random.one_in(4)) {
         std::vector<uint32_t>& list = lists[random.below(static_cast<uint32_t>(lists.size()))];
         random.shuffle(list);                                  // lanes all differ
@@ -980,7 +1029,7 @@ inline Case very_long_case(Random& random) {
 }
 
 inline Case random_small_case(Random& random) {
-    if (random.one_in(25)) return case_with_rings(random);
+    if (random.one_in(25)) return case_with_rings(random, random.between(1, 3), 3);
     if (random.one_in(1000)) return very_long_case(random);
     switch (random.below(4)) {
         case 0: return random_case(random, Shape{2, 4, 2, 4, 3, true});       // long routes
@@ -988,7 +1037,14 @@ inline Case random_small_case(Random& random) {
         default: return random_case(random, small_shape());
     }
 }
+// Small sheets, and now and then one of any size.
+inline Case damaged_sheet_case(Random& random) {
+    return case_with_damaged_sheet(random, random.one_in(10) ? large_shape() : small_shape());
+}
+inline Case damaged_plan_case(Random& random) { return case_with_damaged_plan(random, small_shape()); }
+
 inline Case random_dense_case(Random& random) {
+    if (random.one_in(10)) return case_with_rings(random, 1, 16);
     if (random.one_in(3)) return random_case(random, dense_shape());
     Case c;
     c.kind = "sheet for cuts,";

@@ -1,0 +1,408 @@
+// Gives every case to our proved libraries and to the independent program, and fails at the first answer that differs or number never seen.
+// Run from the repository's folder, by compare/independent/run.
+
+#include <atomic>
+#include <chrono>
+#include <cstdio>
+#include <fstream>
+#include <functional>
+#include <mutex>
+#include <sstream>
+#include <thread>
+
+#include "cases.hpp"
+#include "independent.hpp"
+#include "library.hpp"
+#include "programs.hpp"
+
+using cases::Case;
+using cases::MoveRequest;
+using cases::Random;
+using independent::Bytes;
+using independent::Lists;
+using independent::Record;
+using independent::Sheet;
+using library::Tally;
+
+// ---------------------------------------------------------------------------------------------
+// Work, and what was seen in it
+// ---------------------------------------------------------------------------------------------
+
+enum Kind { stored, one_byte, tiny, small, damaged_sheets, damaged_plans, dense, large, kinds };
+static const char* const kind_names[kinds] = {
+    "examples and stored sheets", "one byte changed, or cut", "tiny crossings", "small crossings",
+    "damaged sheets", "damaged plans", "dense crossings", "large crossings"};
+
+enum Program { judge_program, planner_program, program_count };
+
+// What is added up over all jobs.
+struct Seen {
+    Tally tally;
+    uint64_t cases[kinds] = {}, readable[kinds] = {}, sheet_refused[kinds] = {}, plan_refused[kinds] = {};
+    uint64_t tiny_sheets = 0;
+    uint64_t program[program_count][29] = {};
+    independent::DoubleCheckCounts double_checks;
+
+    void add(const Seen& other) {
+        tally.add(other.tally);
+        for (int kind = 0; kind < kinds; kind++) {
+            cases[kind] += other.cases[kind];
+            readable[kind] += other.readable[kind];
+            sheet_refused[kind] += other.sheet_refused[kind];
+            plan_refused[kind] += other.plan_refused[kind];
+        }
+        tiny_sheets += other.tiny_sheets;
+        for (int p = 0; p < program_count; p++) {
+            for (int number = 0; number <= 28; number++) program[p][number] += other.program[p][number];
+        }
+        double_checks.add(other.double_checks);
+    }
+};
+
+// A part of the work with a seed of its own, so that its cases are the same whichever worker does it.
+struct Job {
+    std::string name;
+    uint64_t seed;
+    std::function<void(Random&, Seen&)> run;
+};
+
+static unsigned long long shown(uint64_t count) { return count; }
+
+static std::atomic<uint64_t> cases_done{0};
+static std::mutex printing;
+
+[[noreturn]] static void fail(const std::string& text) {
+    const std::lock_guard<std::mutex> lock(printing);
+    std::printf("%s\ncompare: failed\n", text.c_str());
+    std::fflush(stdout);
+    std::_Exit(1);
+}
+
+static std::string text_of(const Case& c) {
+    return "case: " + c.kind + "\nsheet " + independent::hex(c.sheet) + "\nplan " + independent::hex(c.plan)
+           + "\nroom to write in " + std::to_string(c.write_room.size()) + " bytes, to plan in "
+           + std::to_string(c.planning_room.size()) + " bytes, words " + std::to_string(c.words.size());
+}
+
+static void compare(Seen& seen, Kind kind, const Case& c, bool sheet_too = true) {
+    try {
+        library::BothOn both(c, seen.tally);
+        if (sheet_too) both.compare_for_sheet();
+        const uint32_t number = both.compare_for_plan();
+        seen.cases[kind]++;
+        if (number == 0) seen.readable[kind]++;
+        if (number >= 1 && number <= 14) seen.sheet_refused[kind]++;
+        if (number >= 15) seen.plan_refused[kind]++;
+    } catch (const std::exception& found) {
+        fail(text_of(c) + "\n" + found.what());
+    }
+    cases_done++;
+}
+
+// ---------------------------------------------------------------------------------------------
+// Jobs
+// ---------------------------------------------------------------------------------------------
+
+// Document 01's sheet S, plans A and B.
+static const Bytes sheet_S = cases::from_hex(
+    "01 002D 02 00C8 012C 00C8 012C 02"
+    "00 00000000 02 00 03E8 0064 01 03E8 0000"
+    "01 000001F4 02 01 03E8 0064 00 03E8 0000");
+static const Bytes plan_A = cases::from_hex("01 000A 02 02 00 01 02 00 01");
+static const Bytes plan_B = cases::from_hex("01 000A 02 02 00 01 02 01 00");
+
+static Case case_of(Random& random, const char* kind, const Bytes& sheet, const Bytes& plan) {
+    Case c;
+    c.kind = kind;
+    c.sheet = sheet;
+    c.plan = plan;
+    cases::add_other_inputs(random, c);
+    return c;
+}
+
+// Asks for every cart, and one more, in every record of positions in range with their sum as the count.
+static void ask_everything(Case& c, const Sheet& sheet) {
+    const uint32_t m = static_cast<uint32_t>(sheet.carts.size());
+    Record record;
+    while (true) {
+        for (uint32_t cart = 0; cart <= m; cart++) c.move_requests.push_back(MoveRequest{record, cart});
+        uint32_t next = 0;
+        while (next < m && record.positions[next] == sheet.carts[next].steps.size() + 1) {
+            record.made -= record.positions[next];
+            record.positions[next] = 0;
+            next++;
+        }
+        if (next == m) return;
+        record.positions[next]++;
+        record.made++;
+    }
+}
+
+// The words in this column of a file's lines.
+static std::vector<std::string> column_of(const char* file, int column) {
+    std::ifstream input(file);
+    std::vector<std::string> found;
+    std::string line;
+    while (std::getline(input, line)) {
+        if (line.empty() || line[0] == '#') continue;
+        std::istringstream words(line);
+        std::string word;
+        for (int i = 0; i <= column; i++) words >> word;
+        found.push_back(word);
+    }
+    if (found.empty()) fail(std::string("no sheets in ") + file);
+    return found;
+}
+
+static void compare_stored(Random& random, Seen& seen) {
+    Bytes one_lane = sheet_S;
+    one_lane[29] = 0;
+    for (const Bytes& sheet : {sheet_S, one_lane}) {
+        for (const Bytes& plan : {plan_A, plan_B}) {
+            Case c = case_of(random, "document 01's sheet and plan", sheet, plan);
+            ask_everything(c, independent::read_sheet(sheet).sheet);
+            compare(seen, stored, c);
+        }
+    }
+    for (const char* sheet : {"01 0009 01 0000 0000 00", "", "02"}) {
+        compare(seen, stored, case_of(random, "document 01's examples", cases::from_hex(sheet), cases::from_hex("01 0005 01 00")));
+    }
+    const Bytes longest = cases::sheet_to_bytes(cases::longest_sheet());
+    compare(seen, stored, case_of(random, "the longest sheet", longest, cases::plan_to_bytes(cases::planned_lists(longest))));
+    std::vector<std::string> sheets = column_of("compare/independent/cut-groups.txt", 1);
+    for (const std::string& sheet : column_of("compare/planned.txt", 0)) sheets.push_back(sheet);
+    for (const std::string& text : sheets) {
+        const Bytes sheet = cases::from_hex(text);
+        Case c = case_of(random, "stored sheet", sheet, cases::plan_to_bytes(cases::planned_lists(sheet)));
+        c.planning_room = cases::random_room(random, 156);
+        compare(seen, stored, c);
+    }
+}
+
+// Every value of every byte, and every cut with the length field as it was and correct.
+static std::vector<Bytes> all_changes(const Bytes& bytes) {
+    std::vector<Bytes> changes;
+    for (size_t i = 0; i < bytes.size(); i++) {
+        Bytes changed = bytes;
+        for (uint32_t value = 0; value < 256; value++) {
+            changed[i] = static_cast<uint8_t>(value);
+            changes.push_back(changed);
+        }
+        Bytes cut(bytes.begin(), bytes.begin() + static_cast<long>(i));
+        changes.push_back(cut);
+        cases::correct_length(cut);
+        changes.push_back(cut);
+    }
+    return changes;
+}
+
+static void compare_one_byte(Random& random, Seen& seen) {
+    for (const Bytes& sheet : all_changes(sheet_S)) compare(seen, one_byte, case_of(random, "S changed", sheet, plan_A));
+    for (const Bytes& plan : all_changes(plan_A)) compare(seen, one_byte, case_of(random, "A changed", sheet_S, plan));
+}
+
+// All routes and all plans; with two carts all records too.
+static void compare_tiny(Random& random, Seen& seen, uint32_t m, uint32_t n, const std::vector<uint32_t>& lanes) {
+    cases::for_every_tiny_crossing(random, m, n, lanes, [&](const Sheet& sheet, const Lists& lists, bool first) {
+        Case c;
+        c.kind = "tiny crossing";
+        c.sheet = cases::sheet_to_bytes(sheet);
+        c.plan = cases::plan_to_bytes(lists);
+        const uint32_t length = static_cast<uint32_t>(c.plan.size());
+        c.write_room = cases::random_room(random, length - 1 + random.below(4));
+        c.planning_room = cases::random_room(random, length + random.below(3));
+        c.words = cases::random_words(random);
+        c.list_zones = {random.below(n + 1)};
+        if (m == 2) {
+            ask_everything(c, sheet);
+        } else {
+            const Record record = cases::record_by_random_run(random, sheet, lists);
+            c.move_requests.push_back(MoveRequest{record, random.below(m + 1)});
+            c.move_requests.push_back(MoveRequest{cases::spoilt_record(random, sheet, record), random.below(m)});
+        }
+        if (first) seen.tiny_sheets++;
+        compare(seen, tiny, c, first);
+    });
+}
+
+static constexpr uint64_t runs_per_number = 12;
+
+// The judge program on so many inputs of each number, on longer ones than it reads, and on none.
+static void compare_judge_program(Random& random, Seen& seen) {
+    Bytes with_plan = sheet_S;
+    with_plan.insert(with_plan.end(), plan_A.begin(), plan_A.end());
+    Bytes longer = with_plan;
+    longer.resize(5000, 1);
+    for (const Bytes& input : {Bytes(), with_plan, longer}) seen.program[judge_program][programs::compare_judge(input)]++;
+    for (uint32_t tried = 0; tried < 40000; tried++) {
+        const Case c = cases::random_small_case(random);
+        const uint32_t number = programs::number_in(independent::judge_program(c.standard_input));
+        if (seen.program[judge_program][number] >= runs_per_number) continue;
+        seen.program[judge_program][programs::compare_judge(c.standard_input)]++;
+    }
+}
+
+// The planner program on so many sheets of each number, on a very long one, and on none.
+static void compare_planner_program(Random& random, Seen& seen) {
+    Bytes longer = sheet_S;
+    longer.resize(sheet_S.size() + 65536, 0);
+    for (const Bytes& sheet : {Bytes(), sheet_S, longer}) seen.program[planner_program][programs::compare_planner(sheet)]++;
+    for (uint32_t tried = 0; tried < 20000; tried++) {
+        const Case c = cases::random_small_case(random);
+        const uint32_t number = independent::read_sheet(c.sheet).number;
+        if (seen.program[planner_program][number] >= runs_per_number) continue;
+        seen.program[planner_program][programs::compare_planner(c.sheet)]++;
+    }
+}
+
+static void add_random_jobs(std::vector<Job>& jobs, Kind kind, uint64_t number, uint64_t cases_each, Case (*make)(Random&)) {
+    for (uint64_t i = 0; i < number; i++) {
+        jobs.push_back(Job{kind_names[kind], 1000 * (kind + 1) + i, [=](Random& random, Seen& seen) {
+            for (uint64_t k = 0; k < cases_each; k++) compare(seen, kind, make(random));
+        }});
+    }
+}
+
+// The long jobs first, so that the workers end together.
+static std::vector<Job> all_jobs() {
+    std::vector<Job> jobs;
+    jobs.push_back(Job{"judge program", 1, compare_judge_program});
+    jobs.push_back(Job{"planner program", 2, compare_planner_program});
+    jobs.push_back(Job{kind_names[stored], 3, compare_stored});
+    jobs.push_back(Job{kind_names[one_byte], 4, compare_one_byte});
+    for (uint32_t m = 2; m <= 3; m++) {
+        for (uint32_t n = 2; n <= 3; n++) {
+            for (const std::vector<uint32_t>& lanes : cases::all_lanes(m)) {
+                jobs.push_back(Job{kind_names[tiny], 5 + jobs.size(), [=](Random& random, Seen& seen) {
+                    compare_tiny(random, seen, m, n, lanes);
+                }});
+            }
+        }
+    }
+    add_random_jobs(jobs, large, 100, 10, cases::random_large_case);
+    add_random_jobs(jobs, dense, 100, 100, cases::random_dense_case);
+    add_random_jobs(jobs, small, 340, 1000, cases::random_small_case);
+    add_random_jobs(jobs, damaged_sheets, 140, 1000, cases::damaged_sheet_case);
+    add_random_jobs(jobs, damaged_plans, 140, 1000, cases::damaged_plan_case);
+    return jobs;
+}
+
+// ---------------------------------------------------------------------------------------------
+// What must have been seen
+// ---------------------------------------------------------------------------------------------
+
+// "Reading a sheet has 1 to 14, reading a plan 1 to 21, writing it again 1 to 21 and 28, the list operation 1 to 21
+// and 27. The planner takes no plan and has only 1 to 14 and 28. Judging has 1 to 22 and 28. Moving has 1 to 26."
+struct Column {
+    const char* name;
+    uint32_t most;                       // it has 0 to this number,
+    uint32_t other;                      // and this one, if not 0
+};
+static const Column columns[library::operations] = {{"sheet", 14, 0},  {"plan", 21, 0},      {"again", 21, 28}, {"list", 21, 27},
+                                                    {"judge", 22, 28}, {"planner", 14, 28}, {"ask", 26, 0},    {"move", 26, 0}};
+// The programs lend room enough, so that 28 never comes.
+static const Column program_columns[program_count] = {{"judge program", 22, 0}, {"planner program", 14, 0}};
+
+// Prints a number's count; gives what is wrong with it, if anything is.
+static std::string print_count(const Column& column, uint32_t number, uint64_t count, int width) {
+    const bool has = number <= column.most || (column.other != 0 && number == column.other);
+    if (count == 0 && !has) {
+        std::printf(" %*s", width, "-");
+    } else {
+        std::printf(" %*llu", width, shown(count));
+    }
+    if ((count > 0) == has) return "";
+    return std::string("\n") + column.name + (has ? " was never seen to give " : " gave what it does not have, ") + std::to_string(number);
+}
+
+// Prints how often each number was seen; each operation has to give all that it has, and no other.
+static void print_numbers(const Seen& seen) {
+    std::printf("number");
+    for (const Column& column : columns) std::printf(" %9s", column.name);
+    for (const Column& column : program_columns) std::printf(" %15s", column.name);
+    std::printf("\n");
+    std::string wrong;
+    for (uint32_t number = 0; number <= 28; number++) {
+        std::printf("%6u", number);
+        for (int o = 0; o < library::operations; o++) wrong += print_count(columns[o], number, seen.tally.seen[o][number], 9);
+        for (int p = 0; p < program_count; p++) wrong += print_count(program_columns[p], number, seen.program[p][number], 15);
+        std::printf("\n");
+    }
+    if (!wrong.empty()) fail("numbers:" + wrong);
+}
+
+static void print_kinds(const Seen& seen) {
+    std::printf("%-28s %9s %9s %14s %13s\n", "cases", "all", "readable", "sheet refused", "plan refused");
+    for (int kind = 0; kind < kinds; kind++) {
+        std::printf("%-28s %9llu %9llu %14llu %13llu\n", kind_names[kind], shown(seen.cases[kind]),
+                    shown(seen.readable[kind]), shown(seen.sheet_refused[kind]),
+                    shown(seen.plan_refused[kind]));
+    }
+    std::printf("every tiny crossing: 2 and 3 carts on 2 and 3 zones, %llu sheets with all routes and lanes, %llu plans\n",
+                shown(seen.tiny_sheets), shown(seen.cases[tiny]));
+    std::printf("rings by length:");
+    for (int length = 1; length <= 16; length++) {
+        if (seen.tally.rings[length] > 0) std::printf(" %d: %llu", length, shown(seen.tally.rings[length]));
+    }
+    std::printf("\nsheets planned with a group cut: %llu\n", shown(seen.tally.cut_sheets));
+    const independent::DoubleCheckCounts& d = seen.double_checks;
+    std::printf("the independent program searched all runs of %llu crossings, %llu states, and compared %llu verdicts, %llu entering times, "
+                "%llu spare times and %llu records two ways\n",
+                shown(d.searches), shown(d.states), shown(d.verdicts), shown(d.times), shown(d.spare), shown(d.records));
+}
+
+// ---------------------------------------------------------------------------------------------
+// Workers
+// ---------------------------------------------------------------------------------------------
+
+static void work(const std::vector<Job>& jobs, std::atomic<size_t>& next, Seen& all) {
+    Seen seen;
+    for (size_t i = next++; i < jobs.size(); i = next++) {
+        try {
+            Random random(jobs[i].seed);
+            jobs[i].run(random, seen);
+        } catch (const std::exception& found) {
+            fail("in " + jobs[i].name + ": " + found.what());
+        }
+    }
+    seen.double_checks = independent::double_check_counts;
+    const std::lock_guard<std::mutex> lock(printing);
+    all.add(seen);
+}
+
+int main() {
+    const auto start = std::chrono::steady_clock::now();
+    const std::vector<Job> jobs = all_jobs();
+    std::atomic<size_t> next{0};
+    std::atomic<uint32_t> ended{0};
+    Seen seen;
+    std::vector<std::thread> workers;
+    const uint32_t worker_count = std::max(2u, std::thread::hardware_concurrency());
+    for (uint32_t i = 0; i < worker_count; i++) {
+        workers.emplace_back([&] {
+            work(jobs, next, seen);
+            ended++;
+        });
+    }
+    uint64_t ticks = 0;
+    while (ended < worker_count) {
+        std::this_thread::sleep_for(std::chrono::milliseconds(100));
+        if (++ticks % 50 != 0) continue;
+        const std::lock_guard<std::mutex> lock(printing);
+        std::printf("compare: %.0f s, %llu cases, %zu of %zu jobs taken\n",
+                    std::chrono::duration<double>(std::chrono::steady_clock::now() - start).count(),
+                    shown(cases_done), std::min(next.load(), jobs.size()), jobs.size());
+        std::fflush(stdout);
+    }
+    for (std::thread& worker : workers) worker.join();
+
+    print_kinds(seen);
+    print_numbers(seen);
+    if (seen.readable[small] < 200000) fail("fewer than 200,000 small crossings with a readable plan");
+    if (seen.tiny_sheets != 17677 || seen.cases[tiny] != 667768) fail("not every tiny crossing");
+    if (seen.sheet_refused[damaged_sheets] < 100000) fail("fewer than 100,000 damaged sheets");
+    if (seen.tally.cut_sheets < 100) fail("fewer than 100 sheets planned with a group cut");
+    if (seen.plan_refused[damaged_plans] < 100000) fail("fewer than 100,000 damaged plans");
+    std::printf("compare: every answer is the independent program's\n");
+    return 0;
+}

@@ -1,0 +1,87 @@
+// The judge program and the planner program run as processes, each output held beside the independent program's.
+
+#ifndef PROGRAMS_HPP
+#define PROGRAMS_HPP
+
+#include <cstdlib>
+#include <fstream>
+#include <iterator>
+#include <string>
+
+#include "library.hpp"
+
+namespace programs {
+
+using independent::Bytes;
+using library::Difference;
+
+constexpr const char* judge_path = "target/bin/judge_main";
+constexpr const char* planner_path = "target/bin/plan_main";
+constexpr const char* folder = "target/compare/";
+
+inline std::string text_in(const std::string& file) {
+    std::ifstream stream(file, std::ios::binary);
+    return std::string(std::istreambuf_iterator<char>(stream), std::istreambuf_iterator<char>());
+}
+
+inline std::string to_string(const Bytes& bytes) { return std::string(bytes.begin(), bytes.end()); }
+
+struct Printed {
+    std::string output, errors;
+};
+
+// What a shell command prints with this standard input.
+inline Printed run(const std::string& name, const std::string& command, const Bytes& input) {
+    const std::string file = folder + name;
+    std::ofstream(file + ".in", std::ios::binary) << to_string(input);
+    const std::string all = "{ " + command + "; } <" + file + ".in >" + file + ".out 2>" + file + ".err";
+    if (std::system(all.c_str()) != 0) throw Difference(command + " failed on " + independent::hex(input));
+    return Printed{text_in(file + ".out"), text_in(file + ".err")};
+}
+
+// The same with bytes that are not text in hexadecimal.
+inline std::string visible(const Printed& printed) {
+    std::string shown;
+    for (char byte : printed.output + printed.errors) {
+        const bool is_text = byte == '\n' || (byte >= ' ' && byte <= '~');
+        shown += is_text ? std::string(1, byte) : "\\" + independent::hex(Bytes{static_cast<uint8_t>(byte)});
+    }
+    return shown;
+}
+
+inline void must_print(const std::string& command, const Bytes& input, const Printed& wanted, const Printed& got) {
+    if (wanted.output == got.output && wanted.errors == got.errors) return;
+    throw Difference(command + "\ninput " + independent::hex(input) + "\nindependent: " + visible(wanted)
+                     + "\nprogram:     " + visible(got));
+}
+
+// The number that a program's text begins with: 0 unless it is refused.
+inline uint32_t number_in(const std::string& text) {
+    return text.compare(0, 8, "refused ") == 0 ? static_cast<uint32_t>(std::atoi(text.c_str() + 8)) : 0;
+}
+
+// "It reads the first 2,048 bytes of standard input and no more": what it leaves is printed after it.
+inline uint32_t compare_judge(const Bytes& input) {
+    const std::string text = independent::judge_program(input);
+    const std::string left = to_string(input).substr(std::min<size_t>(input.size(), 2048));
+    const std::string command = std::string(judge_path) + " && cat";
+    must_print(command, input, Printed{text + left, ""}, run("judge", command, input));
+    return number_in(text);
+}
+
+// Document 01 has no planner program: ours prints the plan, or the refusal as standard error.
+inline uint32_t compare_planner(const Bytes& sheet) {
+    const independent::PlanningAnswer answer = independent::make_plan(sheet, Bytes(156, 0));
+    Printed wanted;
+    if (answer.number == 0) {
+        wanted.output = to_string(answer.room).substr(0, answer.length);
+    } else {
+        wanted.errors = "refused " + std::to_string(answer.number) + " at " + std::to_string(answer.place) + "\n";
+    }
+    must_print(planner_path, sheet, wanted, run("planner", planner_path, sheet));
+    return answer.number;
+}
+
+}  // namespace programs
+
+#endif

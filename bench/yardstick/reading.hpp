@@ -49,16 +49,30 @@ struct Outcome {
   size_t place;
 };
 
+// A big-endian number, by one load.
+template <unsigned width>
+std::uint32_t number_at(const std::uint8_t* bytes) {
+  if (width == 1) return *bytes;
+  if (width == 2) {
+    std::uint16_t value;
+    std::memcpy(&value, bytes, 2);
+    return __builtin_bswap16(value);
+  }
+  std::uint32_t value;
+  std::memcpy(&value, bytes, 4);
+  return __builtin_bswap32(value);
+}
+
 class Fields {
  public:
   Fields(Lent lent, unsigned cut) : bytes_(lent.bytes), length_(lent.length), cut_(cut) {}
 
   // Takes a field of so many bytes. False if the bytes end inside it or its value is not within low and high.
-  template <unsigned width>
+  // Where it is known to be whole, its end is not looked for.
+  template <unsigned width, bool whole = false>
   bool take(std::uint32_t low, std::uint32_t high, unsigned number, std::uint32_t& value) {
-    if (left() < width) return refuse(cut_, at_);
-    value = 0;
-    for (unsigned k = 0; k < width; ++k) value = value << 8 | bytes_[at_ + k];
+    if (!whole && left() < width) return refuse(cut_, at_);
+    value = number_at<width>(bytes_ + at_);
     if (value - low > high - low) return refuse(number, at_);
     at_ += width;
     return true;
@@ -84,35 +98,39 @@ class Fields {
 
 constexpr std::uint32_t any = 0xffffffff;
 
-inline bool read_gaps(Fields& fields, Sheet& sheet) {
+// What takes fields is inlined, so that their cursor stays in a register; where all bytes of a part are there, no field of it is cut.
+
+template <bool whole>
+[[gnu::always_inline]] inline bool read_gaps(Fields& fields, Sheet& sheet) {
   std::uint32_t value;
   for (unsigned z = 0; z < sheet.zones; ++z) {
-    if (!fields.take<2>(0, 60000, 5, value)) return false;
+    if (!fields.take<2, whole>(0, 60000, 5, value)) return false;
     sheet.follow[z] = static_cast<std::uint16_t>(value);
-    if (!fields.take<2>(0, 60000, 5, value)) return false;
+    if (!fields.take<2, whole>(0, 60000, 5, value)) return false;
     sheet.cross[z] = static_cast<std::uint16_t>(value);
   }
   return true;
 }
 
-inline bool read_route(Fields& fields, Sheet& sheet, unsigned cart, unsigned steps) {
+template <bool whole>
+[[gnu::always_inline]] inline bool read_route(Fields& fields, Sheet& sheet, unsigned cart, unsigned steps) {
   std::uint32_t value, named = 0;
   const unsigned last_zone = sheet.zones - 1;
   for (unsigned x = 8 * cart, end = x + steps; x < end; ++x) {
     const size_t place = fields.at();
-    if (!fields.take<1>(0, last_zone, 10, value)) return false;
+    if (!fields.take<1, whole>(0, last_zone, 10, value)) return false;
     if (named >> value & 1) return fields.refuse(11, place);
     named |= std::uint32_t{1} << value;
     sheet.zone[x] = static_cast<std::uint8_t>(value);
-    if (!fields.take<2>(0, 60000, 12, value)) return false;
+    if (!fields.take<2, whole>(0, 60000, 12, value)) return false;
     sheet.passing[x] = static_cast<std::uint16_t>(value);
-    if (!fields.take<2>(0, x + 1 < end ? 60000 : 0, 12, value)) return false;
+    if (!fields.take<2, whole>(0, x + 1 < end ? 60000 : 0, 12, value)) return false;
     sheet.travel[x] = static_cast<std::uint16_t>(value);
   }
   return true;
 }
 
-inline bool read_carts(Fields& fields, Sheet& sheet, size_t* arrivals) {
+[[gnu::always_inline]] inline bool read_carts(Fields& fields, Sheet& sheet, size_t* arrivals) {
   std::uint32_t value;
   for (unsigned c = 0; c < sheet.carts; ++c) {
     if (!fields.take<1>(0, 15, 7, value)) return false;
@@ -121,13 +139,14 @@ inline bool read_carts(Fields& fields, Sheet& sheet, size_t* arrivals) {
     if (!fields.take<4>(0, 3600000, 8, sheet.arrival[c])) return false;
     if (!fields.take<1>(1, 8, 9, value)) return false;
     sheet.steps[c] = static_cast<std::uint8_t>(value);
-    if (!read_route(fields, sheet, c, value)) return false;
+    const bool whole = fields.left() >= 5 * value;
+    if (!(whole ? read_route<true>(fields, sheet, c, value) : read_route<false>(fields, sheet, c, value))) return false;
   }
   return true;
 }
 
 // 14: no cart arrives before a lower-numbered one of its lane.
-inline bool check_arrivals(Fields& fields, const Sheet& sheet, const size_t* arrivals) {
+[[gnu::always_inline]] inline bool check_arrivals(Fields& fields, const Sheet& sheet, const size_t* arrivals) {
   std::uint32_t latest[16] = {};
   for (unsigned c = 0; c < sheet.carts; ++c) {
     std::uint32_t& before = latest[sheet.lane[c]];
@@ -146,7 +165,8 @@ inline Outcome read_sheet(Lent s, Sheet& sheet) {
   if (value != fields.length()) return {3, 1};
   if (!fields.take<1>(1, 24, 4, value)) return fields.outcome;
   sheet.zones = value;
-  if (!read_gaps(fields, sheet)) return fields.outcome;
+  const bool whole = fields.left() >= 4 * value;
+  if (!(whole ? read_gaps<true>(fields, sheet) : read_gaps<false>(fields, sheet))) return fields.outcome;
   if (!fields.take<1>(0, 16, 6, value)) return fields.outcome;
   sheet.carts = value;
   if (!read_carts(fields, sheet, arrivals)) return fields.outcome;
@@ -181,7 +201,7 @@ inline void find_visits(const Sheet& sheet, Visits& visits) {
   }
 }
 
-inline bool read_lists(Fields& fields, const Sheet& sheet, const Lanes& lanes, Orders& orders) {
+[[gnu::always_inline]] inline bool read_lists(Fields& fields, const Sheet& sheet, const Lanes& lanes, Orders& orders) {
   std::uint32_t value;
   size_t late = 0;  // 21: the first byte with a cart that has a higher-numbered one of its lane ahead
   Visits visits;

@@ -29,7 +29,7 @@ use Rattle.plan.specs.Checks.{isListed, planChecks}
 use Rattle.plan.specs.Reading.{planRefused, planDone, aheadOf as saidAhead, ordersOf as saidOrders, readPlan}
 use Rattle.plan.proofs.Passing.{PlanPasses, passing}
 use Rattle.plan.proofs.Visitors.{count-values, step-valid, step-cart}
-use Rattle.plan_reader.specs.Scan.{aheadOf, scan}
+use Rattle.plan_reader.specs.Scan.{planOf, aheadOf, scan}
 use Rattle.plan_reader.proofs.Rows.{rows-all}
 use Rattle.plan_reader.proofs.Listed.{visits-below}
 use Rattle.plan_reader.proofs.ListTables.{listRule, beforeRule, listed, before}
@@ -87,7 +87,8 @@ module _ (sheet : Sheet) (valid : Valid sheet) (p : List ℕ) where
   unfolding saidOrders
   answer-is h = rw (list-is, ahead-is (passing sheet p h))
 
-  scan-is : scan p sheet ≡ firstFailing planRefused (planDone sheet (saidOrders sheet p)) (planChecks sheet p)
+  scan-is : planOf sheet (scan p (sheet .zones) (sheet .steps) (sheet .zone) (sheet .lane))
+      ≡ firstFailing planRefused (planDone sheet (saidOrders sheet p)) (planChecks sheet p)
   scan-is =
       scan-agrees sheet valid p
       ∙ first-answers planRefused (answer sheet valid p) (planDone sheet (saidOrders sheet p)) (planChecks sheet p) answer-is
@@ -100,7 +101,8 @@ module _ (s p : List ℕ) where
       fails-refuses planRefused _ (sheetChecks s ++ planChecks (sheetOf s) p) c (fails-append (sheetChecks s) (planChecks (sheetOf s) p) c f)
       ∙ ap planRefused (sym told)
 
-  pub read-accepted : readSheet s .outcome .number ≡ 0 → scan p (readSheet s .sheet) ≡ readPlan s p
+  pub read-accepted : readSheet s .outcome .number ≡ 0
+      → planOf (readSheet s .sheet) (scan p (readSheet s .sheet .zones) (readSheet s .sheet .steps) (readSheet s .sheet .zone) (readSheet s .sheet .lane)) ≡ readPlan s p
   unfolding readPlan
   read-accepted e =
       let pass = accepted-passes s e in

@@ -13,24 +13,19 @@ use Rattle.lists.proofs.scan_lists.Statement.{statement}
 use Rattle.lists.proofs.scan_lists.Tie as tie
 
 abbrev Inv-loop : tie.InvT-loop
-Inv-loop p n who lead lists₀ at₀ outcome₀ z visitors k seen₀ e₀ lists at outcome seen e =
-    (e ≤ k) × (outcome .number ≡ 0) × (cartsFrom p visitors lead z k 0 0 lists₀ (record { at = at₀ }) (listsFrom p who lead (n - (z + 1)) (z + 1)) ≡ cartsFrom p visitors lead z (k - e) e seen lists (record { at = at }) (listsFrom p who lead (n - (z + 1)) (z + 1)))
+Inv-loop p n who lead count list₀ before₀ late₀ at₀ outcome₀ z visitors k seen₀ e₀ list before late at outcome seen e = (e ≤ k) × (outcome .number ≡ 0) × (cartsFrom p visitors lead z k 0 0 (record { count = count; list = list₀; before = before₀; late = late₀ }) (record { at = at₀ }) (listsFrom p who lead (n - (z + 1)) (z + 1)) ≡ cartsFrom p visitors lead z (k - e) e seen (record { count = count; list = list; before = before; late = late }) (record { at = at }) (listsFrom p who lead (n - (z + 1)) (z + 1)))
 
 abbrev μ-loop : tie.MeasureT-loop
-μ-loop p n who lead lists₀ at₀ outcome₀ z visitors k seen₀ e₀ lists at outcome seen e = k - e
+μ-loop p n who lead count list₀ before₀ late₀ at₀ outcome₀ z visitors k seen₀ e₀ list before late at outcome seen e = k - e
 
 abbrev Inv-scan : tie.InvT-scan
-Inv-scan p n who lead lists₀ at₀ outcome₀ z₀ lists at outcome z =
-    (z ≤ n) × (outcome .number ≡ 0) × (listsFrom p who lead n 0 noLists (record { at = at₀ }) ≡ listsFrom p who lead (n - z) z lists (record { at = at }))
+Inv-scan p n who lead count₀ list₀ before₀ late₀ at₀ outcome₀ z₀ count list before late at outcome z = (z ≤ n) × (outcome .number ≡ 0) × (listsFrom p who lead n 0 noLists (record { at = at₀ }) ≡ listsFrom p who lead (n - z) z (record { count = count; list = list; before = before; late = late }) (record { at = at }))
 
 abbrev μ-scan : tie.MeasureT-scan
-μ-scan p n who lead lists₀ at₀ outcome₀ z₀ lists at outcome z = n - z
-
-no-lists-requires : tie.Need-no-lists-requires Inv-loop μ-loop Inv-scan μ-scan
-no-lists-requires c κs = search needs
+μ-scan p n who lead count₀ list₀ before₀ late₀ at₀ outcome₀ z₀ count list before late at outcome z = n - z
 
 scan-holds : tie.Need-scan-holds Inv-loop μ-loop Inv-scan μ-scan
-scan-holds c = (omega arith, refl, rw (c .no-lists .ensures, left-all))
+scan-holds c = (omega arith, refl, rw (c .before .pre .2 .0, c .before .pre .2 .1, c .before .pre .2 .2, left-all))
 
 mul-visitors : tie.Need-mul-visitors Inv-loop μ-loop Inv-scan μ-scan
 mul-visitors c = search needs
@@ -47,8 +42,8 @@ enum-known-head c = search needs
 enum-known-head-2 : tie.Need-enum-known-head-2 Inv-loop μ-loop Inv-scan μ-scan
 enum-known-head-2 c = search needs
 
-element-write-lists : tie.Need-element-write-lists Inv-loop μ-loop Inv-scan μ-scan
-element-write-lists c = search needs
+element-write-count : tie.Need-element-write-count Inv-loop μ-loop Inv-scan μ-scan
+element-write-count c = search needs
 
 loop-holds : tie.Need-loop-holds Inv-loop μ-loop Inv-scan μ-scan
 loop-holds c = (omega arith, c .before .before .before .before .before .before .scan .inv .1, rw left-all)
@@ -68,41 +63,41 @@ enum-known-entry-2 c = search needs
 cast-d : tie.Need-cast-d Inv-loop μ-loop Inv-scan μ-scan
 cast-d c = search needs
 
-mul-lists : tie.Need-mul-lists Inv-loop μ-loop Inv-scan μ-scan
-mul-lists c = omega (arith, count-value _ _ _ _ _ (sym (c .before .before .before .before .before .before .before .before .before .take-count .ensures) ∙ c .before .before .before .before .before .before .before .head2 .given .1), ones-le 16 _ (c .before .before .before .before .before .before .before .before .before .before .before .before .before .before .before .pre .1 (c .before .before .before .before .before .before .before .before .before .before .before .before .scan .z)))
+mul-list : tie.Need-mul-list Inv-loop μ-loop Inv-scan μ-scan
+mul-list c = omega (arith, count-value _ _ _ _ _ (sym (c .before .before .before .before .before .before .before .before .before .take-count .ensures) ∙ c .before .before .before .before .before .before .before .head2 .given .1), ones-le 16 _ (c .before .before .before .before .before .before .before .before .before .before .before .before .before .before .pre .1 (c .before .before .before .before .before .before .before .before .before .before .before .before .scan .z)))
 
-add-lists : tie.Need-add-lists Inv-loop μ-loop Inv-scan μ-scan
-add-lists c = omega (arith, count-value _ _ _ _ _ (sym (c .before .before .before .before .before .before .before .before .before .take-count .ensures) ∙ c .before .before .before .before .before .before .before .head2 .given .1), ones-le 16 _ (c .before .before .before .before .before .before .before .before .before .before .before .before .before .before .before .pre .1 (c .before .before .before .before .before .before .before .before .before .before .before .before .scan .z)))
+add-list : tie.Need-add-list Inv-loop μ-loop Inv-scan μ-scan
+add-list c = omega (arith, count-value _ _ _ _ _ (sym (c .before .before .before .before .before .before .before .before .before .take-count .ensures) ∙ c .before .before .before .before .before .before .before .head2 .given .1), ones-le 16 _ (c .before .before .before .before .before .before .before .before .before .before .before .before .before .before .pre .1 (c .before .before .before .before .before .before .before .before .before .before .before .before .scan .z)))
 
-element-write-lists-2 : tie.Need-element-write-lists-2 Inv-loop μ-loop Inv-scan μ-scan
-element-write-lists-2 c = omega (arith, count-value _ _ _ _ _ (sym (c .before .before .before .before .before .before .before .before .before .take-count .ensures) ∙ c .before .before .before .before .before .before .before .head2 .given .1), ones-le 16 _ (c .before .before .before .before .before .before .before .before .before .before .before .before .before .before .before .pre .1 (c .before .before .before .before .before .before .before .before .before .before .before .before .scan .z)))
+element-write-list : tie.Need-element-write-list Inv-loop μ-loop Inv-scan μ-scan
+element-write-list c = omega (arith, count-value _ _ _ _ _ (sym (c .before .before .before .before .before .before .before .before .before .take-count .ensures) ∙ c .before .before .before .before .before .before .before .head2 .given .1), ones-le 16 _ (c .before .before .before .before .before .before .before .before .before .before .before .before .before .before .pre .1 (c .before .before .before .before .before .before .before .before .before .before .before .before .scan .z)))
 
-mul-lists-2 : tie.Need-mul-lists-2 Inv-loop μ-loop Inv-scan μ-scan
-mul-lists-2 c = omega (arith, cart-value _ _ _ (c .before .before .before .before .before .before .before .before .before .before .before .before .before .before .before .pre .1 (c .before .before .before .before .before .before .before .before .before .before .before .before .scan .z)) _ _ _ (sym (c .before .before .before .take-cart .ensures) ∙ c .before .entry2 .given .1))
+mul-before : tie.Need-mul-before Inv-loop μ-loop Inv-scan μ-scan
+mul-before c = omega (arith, cart-value _ _ _ (c .before .before .before .before .before .before .before .before .before .before .before .before .before .before .pre .1 (c .before .before .before .before .before .before .before .before .before .before .before .before .scan .z)) _ _ _ (sym (c .before .before .before .take-cart .ensures) ∙ c .before .entry2 .given .1))
 
-add-lists-2 : tie.Need-add-lists-2 Inv-loop μ-loop Inv-scan μ-scan
-add-lists-2 c = omega (arith, cart-value _ _ _ (c .before .before .before .before .before .before .before .before .before .before .before .before .before .before .before .pre .1 (c .before .before .before .before .before .before .before .before .before .before .before .before .scan .z)) _ _ _ (sym (c .before .before .before .take-cart .ensures) ∙ c .before .entry2 .given .1))
+add-before : tie.Need-add-before Inv-loop μ-loop Inv-scan μ-scan
+add-before c = omega (arith, cart-value _ _ _ (c .before .before .before .before .before .before .before .before .before .before .before .before .before .before .pre .1 (c .before .before .before .before .before .before .before .before .before .before .before .before .scan .z)) _ _ _ (sym (c .before .before .before .take-cart .ensures) ∙ c .before .entry2 .given .1))
 
-mul-lists-3 : tie.Need-mul-lists-3 Inv-loop μ-loop Inv-scan μ-scan
-mul-lists-3 c = omega (arith, cart-value _ _ _ (c .before .before .before .before .before .before .before .before .before .before .before .before .before .before .before .pre .1 (c .before .before .before .before .before .before .before .before .before .before .before .before .scan .z)) _ _ _ (sym (c .before .before .before .take-cart .ensures) ∙ c .before .entry2 .given .1))
+mul-before-2 : tie.Need-mul-before-2 Inv-loop μ-loop Inv-scan μ-scan
+mul-before-2 c = omega (arith, cart-value _ _ _ (c .before .before .before .before .before .before .before .before .before .before .before .before .before .before .pre .1 (c .before .before .before .before .before .before .before .before .before .before .before .before .scan .z)) _ _ _ (sym (c .before .before .before .take-cart .ensures) ∙ c .before .entry2 .given .1))
 
-element-write-lists-3 : tie.Need-element-write-lists-3 Inv-loop μ-loop Inv-scan μ-scan
-element-write-lists-3 c = omega (arith, cart-value _ _ _ (c .before .before .before .before .before .before .before .before .before .before .before .before .before .before .before .pre .1 (c .before .before .before .before .before .before .before .before .before .before .before .before .scan .z)) _ _ _ (sym (c .before .before .before .take-cart .ensures) ∙ c .before .entry2 .given .1))
+element-write-before : tie.Need-element-write-before Inv-loop μ-loop Inv-scan μ-scan
+element-write-before c = omega (arith, cart-value _ _ _ (c .before .before .before .before .before .before .before .before .before .before .before .before .before .before .pre .1 (c .before .before .before .before .before .before .before .before .before .before .before .before .scan .z)) _ _ _ (sym (c .before .before .before .take-cart .ensures) ∙ c .before .entry2 .given .1))
 
 mul-first-late : tie.Need-mul-first-late Inv-loop μ-loop Inv-scan μ-scan
-mul-first-late c = omega (arith, cart-value _ _ _ (c .before .before .before .before .before .before .before .before .before .before .before .before .before .before .before .pre .1 (c .before .before .before .before .before .before .before .before .before .before .before .before .scan .z)) _ _ _ (sym (c .before .before .before .take-cart .ensures) ∙ c .before .entry2 .given .1))
+mul-first-late c = omega (arith, cart-value _ _ _ (c .before .before .before .before .before .before .before .before .before .before .before .before .before .before .pre .1 (c .before .before .before .before .before .before .before .before .before .before .before .before .scan .z)) _ _ _ (sym (c .before .before .before .take-cart .ensures) ∙ c .before .entry2 .given .1))
 
 element-copy-out-first-late : tie.Need-element-copy-out-first-late Inv-loop μ-loop Inv-scan μ-scan
-element-copy-out-first-late c = omega (arith, cart-value _ _ _ (c .before .before .before .before .before .before .before .before .before .before .before .before .before .before .before .pre .1 (c .before .before .before .before .before .before .before .before .before .before .before .before .scan .z)) _ _ _ (sym (c .before .before .before .take-cart .ensures) ∙ c .before .entry2 .given .1))
+element-copy-out-first-late c = omega (arith, cart-value _ _ _ (c .before .before .before .before .before .before .before .before .before .before .before .before .before .before .pre .1 (c .before .before .before .before .before .before .before .before .before .before .before .before .scan .z)) _ _ _ (sym (c .before .before .before .take-cart .ensures) ∙ c .before .entry2 .given .1))
 
 first-late-requires : tie.Need-first-late-requires Inv-loop μ-loop Inv-scan μ-scan
 first-late-requires c κs = search needs
 
 with-requires : tie.Need-with-requires Inv-loop μ-loop Inv-scan μ-scan
-with-requires c κs = omega (arith, cart-value _ _ _ (c .before .before .before .before .before .before .before .before .before .before .before .before .before .before .before .before .before .pre .1 (c .before .before .before .before .before .before .before .before .before .before .before .before .before .before .scan .z)) _ _ _ (sym (c .before .before .before .before .before .take-cart .ensures) ∙ c .before .before .before .entry2 .given .1))
+with-requires c κs = omega (arith, cart-value _ _ _ (c .before .before .before .before .before .before .before .before .before .before .before .before .before .before .before .before .pre .1 (c .before .before .before .before .before .before .before .before .before .before .before .before .before .before .scan .z)) _ _ _ (sym (c .before .before .before .before .before .take-cart .ensures) ∙ c .before .before .before .entry2 .given .1))
 
 add-e : tie.Need-add-e Inv-loop μ-loop Inv-scan μ-scan
-add-e c = omega (arith, count-value _ _ _ _ _ (sym (c .before .before .before .before .before .before .before .before .before .before .before .before .take-count .ensures) ∙ c .before .before .before .before .before .before .before .before .before .before .head2 .given .1), ones-le 16 _ (c .before .before .before .before .before .before .before .before .before .before .before .before .before .before .before .before .before .before .pre .1 (c .before .before .before .before .before .before .before .before .before .before .before .before .before .before .before .scan .z)))
+add-e c = omega (arith, count-value _ _ _ _ _ (sym (c .before .before .before .before .before .before .before .before .before .before .before .before .take-count .ensures) ∙ c .before .before .before .before .before .before .before .before .before .before .head2 .given .1), ones-le 16 _ (c .before .before .before .before .before .before .before .before .before .before .before .before .before .before .before .before .before .pre .1 (c .before .before .before .before .before .before .before .before .before .before .before .before .before .before .before .scan .z)))
 
 loop-less : tie.Need-loop-less Inv-loop μ-loop Inv-scan μ-scan
 loop-less c = search needs
@@ -126,7 +121,7 @@ returns-2 : tie.Need-returns-2 Inv-loop μ-loop Inv-scan μ-scan
 returns-2 c = let e = sym (c .before .before .before .take-count .ensures) ∙ c .before .head .given .1 in inr (count-refused _ _ _ _ e, c .before .before .before .before .before .before .scan .inv .2 ∙ lists-refused _ _ _ _ _ _ _ (c .before .before .before .before .before .scan-test .taken) _ e)
 
 returns-3 : tie.Need-returns-3 Inv-loop μ-loop Inv-scan μ-scan
-returns-3 c = let e = sym (c .before .before .before .take-cart .ensures) ∙ c .before .entry .given .1 in inr (cart-refused _ _ _ (c .before .before .before .before .before .before .before .before .before .before .before .before .before .before .before .pre .1 (c .before .before .before .before .before .before .before .before .before .before .before .before .scan .z)) _ _ e, c .before .before .before .before .before .before .before .before .before .before .before .before .scan .inv .2 ∙ lists-count _ _ _ _ _ _ _ (c .before .before .before .before .before .before .before .before .before .before .before .scan-test .taken) _ _ (sym (c .before .before .before .before .before .before .before .before .before .take-count .ensures) ∙ c .before .before .before .before .before .before .before .head2 .given .1) ∙ c .before .before .before .before .before .loop .inv .2 ∙ carts-refused _ _ _ _ _ _ _ _ _ _ (c .before .before .before .before .loop-test .taken) _ e)
+returns-3 c = let e = sym (c .before .before .before .take-cart .ensures) ∙ c .before .entry .given .1 in inr (cart-refused _ _ _ (c .before .before .before .before .before .before .before .before .before .before .before .before .before .before .pre .1 (c .before .before .before .before .before .before .before .before .before .before .before .before .scan .z)) _ _ e, c .before .before .before .before .before .before .before .before .before .before .before .before .scan .inv .2 ∙ lists-count _ _ _ _ _ _ _ (c .before .before .before .before .before .before .before .before .before .before .before .scan-test .taken) _ _ (sym (c .before .before .before .before .before .before .before .before .before .take-count .ensures) ∙ c .before .before .before .before .before .before .before .head2 .given .1) ∙ c .before .before .before .before .before .loop .inv .2 ∙ carts-refused _ _ _ _ _ _ _ _ _ _ (c .before .before .before .before .loop-test .taken) _ e)
 
 pub scan-lists-spec : {M : Type 1} → statement M
 scan-lists-spec =
@@ -136,27 +131,26 @@ scan-lists-spec =
     μ-loop
     Inv-scan
     μ-scan
-    no-lists-requires
     scan-holds
     mul-visitors
     element-copy-out-visitors
     take-count-requires
     enum-known-head
     enum-known-head-2
-    element-write-lists
+    element-write-count
     loop-holds
     cast-loop
     take-cart-requires
     enum-known-entry
     enum-known-entry-2
     cast-d
-    mul-lists
-    add-lists
-    element-write-lists-2
-    mul-lists-2
-    add-lists-2
-    mul-lists-3
-    element-write-lists-3
+    mul-list
+    add-list
+    element-write-list
+    mul-before
+    add-before
+    mul-before-2
+    element-write-before
     mul-first-late
     element-copy-out-first-late
     first-late-requires

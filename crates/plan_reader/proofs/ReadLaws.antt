@@ -11,7 +11,7 @@ use Rattle.sheet.specs.declared.Sheet.{Sheet}
 use Rattle.sheet.specs.declared.SheetRead.{SheetRead}
 use Rattle.sheet.proofs.Accepted.{accepted-valid}
 use Rattle.plan.specs.Reading.{planRefused, readPlan}
-use Rattle.plan_reader.specs.Scan.{PlanScanned, planOf, ReadInto, TablesFit, scan}
+use Rattle.plan_reader.specs.Scan.{PlanScanned, planOf, ordersIn, ReadInto, TablesFit, scan}
 use Rattle.plan_reader.proofs.ValidLaws.{valid-routes, valid-lanes}
 use Rattle.plan_reader.proofs.Answer.{read-refused, read-accepted}
 
@@ -41,7 +41,7 @@ module _ (s p : List ℕ) (read : SheetRead) (is : read ≡ readSheet s) where
           sym (accepted-scan accepted)
           ∙ ⊎-elim (λ w. absurd (n (ap (λ (o : Outcome). o .number) (w .0)))) (λ w. ap (planOf (read .sheet)) (w .1)) into
 
-      pub orders-read : r .number ≡ 0 → readPlan s p ≡ record { outcome = r; sheet = read .sheet; orders = record { count = count; list = list; ahead = ahead } }
+      pub orders-read : r .number ≡ 0 → readPlan s p ≡ record { outcome = r; sheet = read .sheet; orders = ordersIn count list ahead }
       orders-read e =
           sym (accepted-scan accepted)
           ∙ ⊎-elim (λ w. rw (w .0) (ap (planOf (read .sheet)) (w .1))) (λ w. absurd (omega (arith, w .0))) into

@@ -36,10 +36,14 @@ abbrev pub planOf : Sheet → PlanScanned → PlanRead
 planOf sheet (Done orders) = planDone sheet orders
 planOf sheet (Refuses outcome) = planRefused outcome
 
+-- the orders in three tables
+abbrev pub ordersIn : List ℕ → List ℕ → List ℕ → Orders
+ordersIn count list ahead = record { count = count; list = list; ahead = ahead }
+
 -- how the reader is left, where all of the work is `whole`: with the orders in the tables, or with a refusal
 abbrev pub ReadInto : PlanScanned → Outcome → List ℕ → List ℕ → List ℕ → Type 0
 ReadInto whole r count list ahead =
-    ((r ≡ done) × (whole ≡ Done (record { count = count; list = list; ahead = ahead }))) ⊎ ((0 < r .number) × (whole ≡ Refuses r))
+    ((r ≡ done) × (whole ≡ Done (ordersIn count list ahead))) ⊎ ((0 < r .number) × (whole ≡ Refuses r))
 
 -- tables with no orders yet
 abbrev pub Blank : List ℕ → List ℕ → List ℕ → Type 0
@@ -53,7 +57,7 @@ pub record TablesFit (zones : ℕ) (steps zone lane : List ℕ) : Type 0 where
 
 -- the orders of lists that are read to the end
 abbrev pub ordersOf : List ℕ → List ℕ → Lists → Orders
-ordersOf steps zone l = record { count = l .count; list = l .list; ahead = aheadOf steps zone (l .before) }
+ordersOf steps zone l = ordersIn (l .count) (l .list) (aheadOf steps zone (l .before))
 
 -- how the scan of the lists ends: with the lists, to go on with, or with the refusal
 abbrev pub onScanned : Scanned → (Lists → Cursor → PlanScanned) → PlanScanned

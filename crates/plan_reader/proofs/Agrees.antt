@@ -32,7 +32,7 @@ use Rattle.lists.specs.Sets.{whoVisits, mayLead, withCart, firstLate}
 use Rattle.lists.specs.Scan.{Lists, countTaken, cartTaken, noLists, putCount, putCart, Scanned, onTaken, cartsFrom, listsFrom}
 use Rattle.lists.specs.declared.Taken.{Taken}
 use Rattle.lists.specs.declared.Taken.the-variants.{Got, Refused}
-use Rattle.plan_reader.specs.Scan.{Done, Refuses, planOf, ordersOf, finish, onScanned, fromLists, scan}
+use Rattle.plan_reader.specs.Scan.{Done, Refuses, planOf, ordersOf, finish, onScanned, fromLists, scan, sheetScan}
 use Rattle.plan_reader.proofs.Listed.{seen, seen-none, seen-has, seen-more, who, who-ones, who-has, visits-below, lead, late-is}
 use Rattle.plan_reader.proofs.ListTables.{listRule, beforeRule, listed, before, listed-none, before-none, listed-put, before-put}
 use Rattle.plan_reader.proofs.Rows.{rows-next}
@@ -154,7 +154,7 @@ module _ (sheet : Sheet) (valid : Valid sheet) (p : List ℕ) where
   nothing-yet : noLists ≡ soFar 0 0 0 0
   nothing-yet = rw (← table-none 24 (countOf p), ← listed-none p, ← before-none p)
 
-  pub scan-agrees : planOf sheet (scan p (sheet .zones) (sheet .steps) (sheet .zone) (sheet .lane)) ≡ tableAnswer (planChecks sheet p)
+  pub scan-agrees : planOf sheet (sheetScan p sheet) ≡ tableAnswer (planChecks sheet p)
   unfolding scan planChecks fromLists countAt
   scan-agrees =
       simp append-assoc

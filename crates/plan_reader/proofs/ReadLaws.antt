@@ -7,17 +7,12 @@ use native.Mathlib.Omega.{arith}
 use Rattle.words.specs.declared.Outcome.{Outcome}
 use Rattle.sheet.specs.Reading.{readSheet}
 use Rattle.sheet.specs.Valid.{Valid}
-use Rattle.sheet.specs.declared.Sheet.{Sheet}
 use Rattle.sheet.specs.declared.SheetRead.{SheetRead}
 use Rattle.sheet.proofs.Accepted.{accepted-valid}
 use Rattle.plan.specs.Reading.{planRefused, readPlan}
-use Rattle.plan_reader.specs.Scan.{PlanScanned, planOf, ordersIn, ReadInto, TablesFit, scan}
+use Rattle.plan_reader.specs.Scan.{planOf, ordersIn, ReadInto, TablesFit, sheetScan}
 use Rattle.plan_reader.proofs.ValidLaws.{valid-routes, valid-lanes}
 use Rattle.plan_reader.proofs.Answer.{read-refused, read-accepted}
-
--- the pass over a plan for a sheet
-abbrev pub sheetScan : List ℕ → Sheet → PlanScanned
-sheetScan p sheet = scan p (sheet .zones) (sheet .steps) (sheet .zone) (sheet .lane)
 
 module _ (s p : List ℕ) (read : SheetRead) (is : read ≡ readSheet s) where
   pub sheet-refused : (read .outcome .number ≡ 0 → ⊥) → readPlan s p ≡ planRefused (read .outcome)

@@ -83,3 +83,7 @@ module _ (p : List ℕ) (zones : ℕ) (steps zone lane : List ℕ) where
       taking Refuses 15 p 2 c 17 (λ total. eqb total (length p)) λ total c2.
       taking Refuses 15 p 1 c2 18 (λ n. eqb n zones) λ n c3.
       fromLists c3
+
+-- the whole pass over a plan for a sheet
+abbrev pub sheetScan : List ℕ → Sheet → PlanScanned
+sheetScan p sheet = scan p (sheet .zones) (sheet .steps) (sheet .zone) (sheet .lane)

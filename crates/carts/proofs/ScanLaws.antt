@@ -78,3 +78,7 @@ module _ {whole rest : SheetRead} {outcome : Outcome} (left : Left whole rest ou
 -- what is done leaves the rest to the next part
 pub left-then : {whole rest last : SheetRead} {outcome next : Outcome} → Left whole rest outcome → outcome .number ≡ 0 → Left rest last next → Left whole last next
 left-then left e later = rw (left-done left e .1) later
+
+-- where nothing is left to do, the outcome and the sheet are the answer
+pub left-answers : {whole : SheetRead} {sheet : Sheet} {outcome : Outcome} → Left whole (sheetDone sheet) outcome → outcome .number ≡ 0 → record { outcome = outcome; sheet = sheet } ≡ whole
+left-answers left e = rw (left-done left e .0, left-done left e .1)

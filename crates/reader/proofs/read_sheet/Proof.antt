@@ -1,6 +1,6 @@
 -- The counts leave the rest to the carts, these the sheet; or the refusal of one is the answer. The whole pass is the table's.
 use mathlib.Core.Path.{sym, _∙_}
-use Rattle.carts.proofs.ScanLaws.{left-done, left-refused, left-then}
+use Rattle.carts.proofs.ScanLaws.{left-refused, left-then, left-answers}
 use Rattle.reader.proofs.Agrees.{scan-agrees}
 use borrow.Author.Needs.{needs}
 use Rattle.reader.proofs.read_sheet.Statement.{statement}
@@ -25,7 +25,7 @@ returns-2 : tie.Need-returns-2
 returns-2 c = c .sheet-refused2 .ensures ∙ sym (left-refused (left-then (c .before .before .before .before .before .before .before .before .before .before .before .before .before .read-counts .ensures .2) (c .before .before .before .before .before .before .before .before .before .before .if1 .left) (c .before .before .before .read-carts .ensures _ _)) (c .before .if2 .taken) .1) ∙ scan-agrees _
 
 returns-3 : tie.Need-returns-3
-returns-3 c = let (number, sheet) = left-done (left-then (c .before .before .before .before .before .before .before .before .before .before .before .before .read-counts .ensures .2) (c .before .before .before .before .before .before .before .before .before .if1 .left) (c .before .before .read-carts .ensures _ _)) (c .if2 .left) in rw number (sym sheet ∙ scan-agrees _)
+returns-3 c = left-answers (left-then (c .before .before .before .before .before .before .before .before .before .before .before .before .read-counts .ensures .2) (c .before .before .before .before .before .before .before .before .before .if1 .left) (c .before .before .read-carts .ensures _ _)) (c .if2 .left) ∙ scan-agrees _
 
 pub read-sheet-spec : {M : Type 1} → statement M
 read-sheet-spec =

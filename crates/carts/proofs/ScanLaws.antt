@@ -1,19 +1,24 @@
--- One turn of each loop of the scan, over what is left: `m - i` of m carts, `k - j` of k steps.
+-- One turn of each loop of the scan, over what is left: `m - i` of m carts, `k - j` of k steps; and the two ways in which a part is left.
 use Prim.Native.Nat.{ℕ, _+_, _-_, _*_, _≤_, _<_}
-use mathlib.Core.Path.{_≡_}
+use mathlib.Core.Path.{_≡_, ap}
+use mathlib.Core.Bool.{true, false}
 use mathlib.Core.List.{List}
-use lib.ListN.{set}
+use mathlib.Core.Logic.{⊎-elim}
+use native.Mathlib.Omega.{arith}
+use lib.ListN.{length, getD, set}
+use borrow.Author.Tests.{eq-eqb, ne-eqb}
+use Rattle.words.specs.Checks.{done, refused}
 use Rattle.words.specs.declared.Outcome.{Outcome}
 use Rattle.words.proofs.Left.{left-suc, left-zero}
 use Rattle.fields.specs.declared.Cursor.{Cursor}
-use Rattle.sheet.specs.Reading.{sheetRefused}
+use Rattle.sheet.specs.Reading.{sheetRefused, sheetDone}
 use Rattle.sheet.specs.declared.Sheet.{Sheet}
 use Rattle.sheet.specs.declared.SheetRead.{SheetRead}
 use Rattle.cart.specs.Parts.{headAt, stepAt}
 use Rattle.cart.specs.declared.CartHead.{CartHead}
 use Rattle.cart.specs.declared.Head.the-variants.{Got as GotHead, Refused as NoHead}
 use Rattle.cart.specs.declared.Step.the-variants.{Got as GotStep, Refused as NoStep}
-use Rattle.carts.specs.Scan.{stepsFrom, cartsFrom, finish, putCart, putStep}
+use Rattle.carts.specs.Scan.{early, lanesFrom, finish, stepsFrom, cartsFrom, putCart, putStep, Left, HasArrivals}
 
 module _ (s : List ℕ) (m i : ℕ) (sh : Sheet) (spot : List ℕ) (c : Cursor) where
   pub carts-end : m ≤ i → cartsFrom s (m - i) i sh spot c ≡ finish s sh spot c
@@ -40,3 +45,40 @@ module _ (s : List ℕ) (i k j : ℕ) (sh : Sheet) (c : Cursor) (go : Sheet → 
   pub steps-next : j < k → (zone passing travel : ℕ) (next : Cursor) → stepAt s (sh .zones) (sh .zone) (8 * i) j k c ≡ GotStep zone passing travel next → stepsFrom s i k (k - j) j sh c go ≡ stepsFrom s i k (k - (j + 1)) (j + 1) (putStep sh (8 * i + j) zone passing travel) next go
   unfolding stepsFrom
   steps-next h zone passing travel next e = rw (left-suc k j h, e)
+
+module _ (s : List ℕ) (sh : Sheet) (spot : List ℕ) (c : Cursor) where
+  pub finish-refused : (c .at ≡ length s → ⊥) → finish s sh spot c ≡ sheetRefused (refused 13 (c .at))
+  unfolding finish
+  finish-refused n = rw (ne-eqb _ _ n)
+
+  pub finish-lanes : c .at ≡ length s → (m : ℕ) → sh .carts ≡ m → finish s sh spot c ≡ lanesFrom sh spot m 0
+  unfolding finish
+  finish-lanes e m k = rw (eq-eqb _ _ e) (ap (λ (n : ℕ). lanesFrom sh spot n 0) k)
+
+module _ (sh : Sheet) (lane arrival spot : List ℕ) (m i : ℕ) (has : HasArrivals sh lane arrival m) where
+  pub lanes-refused : i < m → early lane arrival i ≡ true → lanesFrom sh spot (m - i) i ≡ sheetRefused (refused 14 (getD spot i 0))
+  unfolding lanesFrom
+  lanes-refused h e = rw (left-suc m i h, has .0, has .1, e)
+
+  pub lanes-next : i < m → early lane arrival i ≡ false → lanesFrom sh spot (m - i) i ≡ lanesFrom sh spot (m - (i + 1)) (i + 1)
+  unfolding lanesFrom
+  lanes-next h e = rw (left-suc m i h, has .0, has .1, e)
+
+  pub lanes-end : m ≤ i → lanesFrom sh spot (m - i) i ≡ sheetDone sh
+  unfolding lanesFrom
+  lanes-end h = rw (left-zero m i h)
+
+module _ {whole rest : SheetRead} {outcome : Outcome} (left : Left whole rest outcome) where
+  pub left-done : outcome .number ≡ 0 → (outcome ≡ done) × (whole ≡ rest)
+  left-done e = ⊎-elim (λ w. w) (λ w. absurd (omega (arith, w .0))) left
+
+  pub left-refused : (outcome .number ≡ 0 → ⊥) → (0 < outcome .number) × (whole ≡ sheetRefused outcome)
+  left-refused n = ⊎-elim (λ w. absurd (n (ap (λ (o : Outcome). o .number) (w .0)))) (λ w. w) left
+
+-- what is done leaves the rest to the next part
+pub left-then : {whole rest last : SheetRead} {outcome next : Outcome} → Left whole rest outcome → outcome .number ≡ 0 → Left rest last next → Left whole last next
+left-then left e later = rw (left-done left e .1) later
+
+-- where nothing is left to do, the outcome and the sheet are the answer
+pub left-answers : {whole : SheetRead} {sheet : Sheet} {outcome : Outcome} → Left whole (sheetDone sheet) outcome → outcome .number ≡ 0 → record { outcome = outcome; sheet = sheet } ≡ whole
+left-answers left e = rw (left-done left e .0, left-done left e .1)

@@ -7,7 +7,8 @@ use mathlib.Core.Logic.{_⊎_}
 use lib.ListN.{length, getD, set}
 use lib.Dec.{ltb, eqb}
 use Rattle.words.specs.Lists.{pick, anyBelow}
-use Rattle.words.specs.Checks.{refused}
+use Rattle.words.specs.Checks.{done, refused}
+use Rattle.words.specs.declared.Outcome.{Outcome}
 use Rattle.fields.specs.declared.Cursor.{Cursor}
 use Rattle.sheet.specs.Reading.{sheetRefused, sheetDone}
 use Rattle.sheet.specs.declared.Sheet.{Sheet}
@@ -18,7 +19,6 @@ use Rattle.cart.specs.declared.Head.{Head}
 use Rattle.cart.specs.declared.Head.the-variants.{Got as GotHead, Refused as NoHead}
 use Rattle.cart.specs.declared.Step.{Step}
 use Rattle.cart.specs.declared.Step.the-variants.{Got as GotStep, Refused as NoStep}
-use Rattle.carts.specs.declared.Scan.{Scan}
 
 -- ---- what a head and a step do to the sheet
 
@@ -94,7 +94,29 @@ cartsFrom s (suc n) i sh spot c =
     stepsFrom s i (h .steps) (h .steps) 0 (putCart sh i h) next λ sh′ c′.
     cartsFrom s n (i + 1) sh′ (set spot i (h .place)) c′
 
--- how the scan of m carts is left, where all of the work is `whole`: after the last cart, or with a refusal
-abbrev pub Left : SheetRead → List ℕ → ℕ → Scan → Type 0
-Left whole s m r =
-    ((r .outcome .number ≡ 0) × (r .sheet .carts ≡ m) × (whole ≡ finish s (r .sheet) (r .spot) (record { at = r .at }))) ⊎ ((0 < r .outcome .number) × (whole ≡ sheetRefused (r .outcome)))
+-- ---- what the code is held to: it fills tables and says where it was left
+
+-- the sheet that two counts and eight tables make
+abbrev pub asSheet : ℕ → List ℕ → List ℕ → ℕ → List ℕ → List ℕ → List ℕ → List ℕ → List ℕ → List ℕ → Sheet
+asSheet zones follow cross carts lane arrival steps zone passing travel =
+    record {
+      zones = zones;
+      follow = follow;
+      cross = cross;
+      carts = carts;
+      lane = lane;
+      arrival = arrival;
+      steps = steps;
+      zone = zone;
+      passing = passing;
+      travel = travel;
+    }
+
+-- a part of the work is left: done, and the rest is still to do, or with the refusal that the whole answers
+abbrev pub Left : SheetRead → SheetRead → Outcome → Type 0
+Left whole rest outcome =
+    ((outcome ≡ done) × (whole ≡ rest)) ⊎ ((0 < outcome .number) × (whole ≡ sheetRefused outcome))
+
+-- the sheet has m carts with these lanes and arrivals
+abbrev pub HasArrivals : Sheet → List ℕ → List ℕ → ℕ → Type 0
+HasArrivals sh lane arrival m = (sh .lane ≡ lane) × (sh .arrival ≡ arrival) × (sh .carts ≡ m)

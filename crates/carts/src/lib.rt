@@ -3,15 +3,15 @@ use cart::Step;
 use cart::read_head;
 use cart::read_step;
 use fields::Cursor;
-use sheet::Sheet;
-use sheet::SheetRead;
-use sheet::sheet_refused;
 use words::Outcome;
 use words::refused;
 ghost use mathlib.Core.Path.{_≡_};
-ghost use Prim.Native.Nat.{_≤_, _<_};
+ghost use mathlib.Core.List.{List};
+ghost use Prim.Native.Nat.{ℕ, _≤_, _<_};
 ghost use lib.ListN.{replicate};
-ghost use Rattle.carts.specs.Scan.{early, finish, cartsFrom, Left};
+ghost use Rattle.sheet.specs.Reading.{sheetDone};
+ghost use Rattle.sheet.specs.declared.Sheet.{Sheet};
+ghost use Rattle.carts.specs.Scan.{early, finish, cartsFrom, asSheet, Left, HasArrivals};
 
 // Whether cart i arrives before a lower-numbered one of its lane.
 fn is_early(lane: &[u8; 16], arrival: &[u32; 16], i: usize) -> bool
@@ -30,48 +30,57 @@ fn is_early(lane: &[u8; 16], arrival: &[u32; 16], i: usize) -> bool
     false
 }
 
-// After all fields: no byte may follow (13), then the arrivals on each lane (14).
-fn finished(s: &[u8], c: Cursor, sheet: Sheet, spot: [usize; 16]) -> SheetRead
-    requires { ⌜ sheet .carts ≤ 16 ⌝ }
-    ensures { λ r. ⌜ r ≡ finish (now (s .entry)) sheet spot c ⌝ }
+// After all fields: no byte may follow (13), then the arrivals on each lane of m carts (14).
+fn finished(
+    s: &[u8],
+    c: Cursor,
+    m: usize,
+    lane: &[u8; 16],
+    arrival: &[u32; 16],
+    spot: &[usize; 16],
+) -> Outcome
+    requires { ⌜ m ≤ 16 ⌝ }
+    ensures { λ r. ⌜ ((sh : Sheet) → HasArrivals sh (now (lane .entry)) (now (arrival .entry)) m → Left (finish (now (s .entry)) sh (now (spot .entry)) c) (sheetDone sh) r) ⌝ }
 {
     if c.at != s.len() {
-        return sheet_refused(refused(13, c.at));
+        return refused(13, c.at);
     }
-    let m = sheet.carts;
-    let lane = sheet.lane;
-    let arrival = sheet.arrival;
     let mut i = 0;
     while i < m {
-        if is_early(&lane, &arrival, i) {
-            return sheet_refused(refused(14, spot[i]));
+        if is_early(lane, arrival, i) {
+            return refused(14, spot[i]);
         }
         i += 1;
     }
-    let outcome = Outcome {
+    Outcome {
         number: 0,
         place: 0,
-    };
-    SheetRead { outcome, sheet }
+    }
 }
 
-// Where the scan of the carts was left: number 0 after the last cart, or a refusal.
-pub struct Scan {
+// Where reading was left: number 0 and the place of the next field, or a refusal.
+pub struct Reached {
     pub outcome: Outcome,
     pub at: usize,
-    pub sheet: Sheet,
-    pub spot: [usize; 16],
 }
 
-// The carts: nested loops over carts and steps, left by the label at the first byte that breaks a rule.
-fn scan_carts(s: &[u8], c: Cursor, sheet: Sheet) -> Scan
-    requires { ⌜ (sheet .carts ≤ 16) × (sheet .zones ≤ 24) ⌝ }
-    ensures { λ r. ⌜ Left (cartsFrom (now (s .entry)) (sheet .carts) 0 sheet (replicate 16 0) c) (now (s .entry)) (sheet .carts) r ⌝ }
+// The m carts of n zones: nested loops over carts and steps, left by the label at the first byte that breaks a rule.
+fn scan_carts(
+    s: &[u8],
+    c: Cursor,
+    n: usize,
+    m: usize,
+    lane: &mut [u8; 16],
+    arrival: &mut [u32; 16],
+    steps: &mut [u8; 16],
+    zone: &mut [u8; 128],
+    passing: &mut [u16; 128],
+    travel: &mut [u16; 128],
+    spot: &mut [usize; 16],
+) -> Reached
+    requires { ⌜ (n ≤ 24) × (m ≤ 16) ⌝ }
+    ensures { λ r. ⌜ ((follow cross : List ℕ) → Left (cartsFrom (now (s .entry)) m 0 (asSheet n follow cross m (now (lane .entry)) (now (arrival .entry)) (now (steps .entry)) (now (zone .entry)) (now (passing .entry)) (now (travel .entry))) (now (spot .entry)) c) (finish (now (s .entry)) (asSheet n follow cross m (now (lane .exit)) (now (arrival .exit)) (now (steps .exit)) (now (zone .exit)) (now (passing .exit)) (now (travel .exit))) (now (spot .exit)) (record { at = r .at })) (r .outcome)) ⌝ }
 {
-    let m = sheet.carts;
-    let n = sheet.zones;
-    let mut sh = sheet;
-    let mut spot = [0usize; 16];
     let mut at = c.at;
     let mut outcome = Outcome {
         number: 0,
@@ -87,15 +96,15 @@ fn scan_carts(s: &[u8], c: Cursor, sheet: Sheet) -> Scan
             }
             Head::Got(h, next) => {
                 let k = h.steps as usize;
-                sh.lane[i] = h.lane;
-                sh.arrival[i] = h.arrival;
-                sh.steps[i] = h.steps;
+                lane[i] = h.lane;
+                arrival[i] = h.arrival;
+                steps[i] = h.steps;
                 spot[i] = h.place;
                 at = next.at;
                 let base = 8 * i;
                 let mut j = 0;
                 while j < k {
-                    let step = read_step(s, Cursor { at }, n, &sh.zone, base, j, k);
+                    let step = read_step(s, Cursor { at }, n, zone, base, j, k);
                     match step {
                         Step::Refused(o) => {
                             outcome = o;
@@ -103,9 +112,9 @@ fn scan_carts(s: &[u8], c: Cursor, sheet: Sheet) -> Scan
                         }
                         Step::Got(z, p, t, next2) => {
                             let x = base + j;
-                            sh.zone[x] = z;
-                            sh.passing[x] = p;
-                            sh.travel[x] = t;
+                            zone[x] = z;
+                            passing[x] = p;
+                            travel[x] = t;
                             at = next2.at;
                         }
                     }
@@ -115,26 +124,43 @@ fn scan_carts(s: &[u8], c: Cursor, sheet: Sheet) -> Scan
         }
         i += 1;
     }
-    Scan {
-        outcome,
-        at,
-        sheet: sh,
-        spot,
-    }
+    Reached { outcome, at }
 }
 
-// The carts, and what follows them.
-pub fn read_carts(s: &[u8], c: Cursor, sheet: Sheet) -> SheetRead
-    requires { ⌜ (sheet .carts ≤ 16) × (sheet .zones ≤ 24) ⌝ }
-    ensures { λ r. ⌜ r ≡ cartsFrom (now (s .entry)) (sheet .carts) 0 sheet (replicate 16 0) c ⌝ }
+// The m carts of n zones, and what follows them: number 0, and the tables hold the carts, or a refusal.
+pub fn read_carts(
+    s: &[u8],
+    c: Cursor,
+    n: usize,
+    m: usize,
+    lane: &mut [u8; 16],
+    arrival: &mut [u32; 16],
+    steps: &mut [u8; 16],
+    zone: &mut [u8; 128],
+    passing: &mut [u16; 128],
+    travel: &mut [u16; 128],
+) -> Outcome
+    requires { ⌜ (n ≤ 24) × (m ≤ 16) ⌝ }
+    ensures { λ r. ⌜ ((follow cross : List ℕ) → Left (cartsFrom (now (s .entry)) m 0 (asSheet n follow cross m (now (lane .entry)) (now (arrival .entry)) (now (steps .entry)) (now (zone .entry)) (now (passing .entry)) (now (travel .entry))) (replicate 16 0) c) (sheetDone (asSheet n follow cross m (now (lane .exit)) (now (arrival .exit)) (now (steps .exit)) (now (zone .exit)) (now (passing .exit)) (now (travel .exit)))) r) ⌝ }
 {
-    let scan = scan_carts(s, c, sheet);
-    let outcome = scan.outcome;
+    let mut spot = [0usize; 16];
+    let reached = scan_carts(
+        s,
+        c,
+        n,
+        m,
+        lane,
+        arrival,
+        steps,
+        zone,
+        passing,
+        travel,
+        &mut spot,
+    );
+    let outcome = reached.outcome;
     if outcome.number != 0 {
-        return sheet_refused(outcome);
+        return outcome;
     }
-    let at = scan.at;
-    let sh = scan.sheet;
-    let spot = scan.spot;
-    finished(s, Cursor { at }, sh, spot)
+    let at = reached.at;
+    finished(s, Cursor { at }, m, lane, arrival, &spot)
 }

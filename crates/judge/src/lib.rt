@@ -1,6 +1,6 @@
 use finish::finish_of;
-use plan::Orders;
-use plan_reader::read_plan;
+use plan_reader::read_orders;
+use reader::read_sheet;
 use ring::Ring;
 use ring::lowest_stuck;
 use ring::no_ring;
@@ -13,10 +13,10 @@ ghost use mathlib.Core.Path.{_≡_};
 ghost use mathlib.Core.List.{_++_};
 ghost use Prim.Native.Nat.{_≤_};
 ghost use lib.ListN.{length, drop};
-ghost use Rattle.words.specs.Checks.{firstFailing};
 ghost use Rattle.sheet.specs.Valid.{Valid};
 ghost use Rattle.plan.specs.Valid.{ValidOrders};
-ghost use Rattle.judge.specs.Judging.{judged, notJudged, verdictChecks, judgeRefused, withTimes, judge, wordsAfter};
+ghost use Rattle.plan_reader.specs.Scan.{ordersIn};
+ghost use Rattle.judge.specs.Judging.{notJudged, JudgedAs, judge, wordsAfter};
 
 // What judging answers: done with the finish and the number of moves, or a refusal with both 0. Only a locked plan has a ring.
 #[repr(C)]
@@ -51,17 +51,22 @@ fn put_times(enter: &[u32; 128], words: &mut [u32])
 }
 
 // A readable plan judged: 22 with the ring, 28, or its times in the words lent.
-fn judge_orders(sheet: Sheet, orders: Orders, words: &mut [u32]) -> Judged
-    requires { ⌜ Valid sheet × ValidOrders sheet orders ⌝ }
-    ensures answer { λ r. ⌜ r ≡ firstFailing (judgeRefused sheet orders) (judged sheet orders) (verdictChecks sheet orders (length (now (words .entry)))) ⌝ }
-    ensures holds { λ r. ⌜ now (words .exit) ≡ firstFailing (λ _. now (words .entry)) (withTimes sheet orders (now (words .entry))) (verdictChecks sheet orders (length (now (words .entry)))) ⌝ }
+fn judge_orders<'a>(
+    sheet: Sheet,
+    count: &'a [u8; 24],
+    list: &'a [u8; 384],
+    ahead: &'a [u16; 128],
+    words: &mut [u32],
+) -> Judged
+    requires { ⌜ Valid sheet × ValidOrders sheet (ordersIn (now count) (now list) (now ahead)) ⌝ }
+    ensures { λ r. ⌜ JudgedAs sheet (ordersIn (now (count .entry)) (now (list .entry)) (now (ahead .entry))) (now (words .entry)) r (now (words .exit)) ⌝ }
 {
     let mut enter = [0u32; 128];
     let mut order = [0u8; 144];
     let settled = settle(
         &sheet.steps,
         &sheet.zone,
-        &orders.ahead,
+        ahead,
         &sheet.lane,
         &sheet.arrival,
         &sheet.passing,
@@ -75,15 +80,7 @@ fn judge_orders(sheet: Sheet, orders: Orders, words: &mut [u32]) -> Judged
     let stuck = lowest_stuck(&sheet.steps, &at);
     if stuck < 16 {
         let left = settled.left;
-        let ring = ring_of(
-            &sheet.steps,
-            &sheet.zone,
-            &orders.count,
-            &orders.list,
-            &at,
-            &left,
-            stuck,
-        );
+        let ring = ring_of(&sheet.steps, &sheet.zone, count, list, &at, &left, stuck);
         return not_judged(refused(22, 0), ring);
     }
     if words.len() < 128 {
@@ -106,12 +103,27 @@ pub fn judge(s: &[u8], p: &[u8], words: &mut [u32]) -> Judged
     ensures answer { λ r. ⌜ r ≡ judge (now (s .entry)) (now (p .entry)) (length (now (words .entry))) ⌝ }
     ensures holds { λ r. ⌜ now (words .exit) ≡ wordsAfter (now (s .entry)) (now (p .entry)) (now (words .entry)) ⌝ }
 {
-    let read = read_plan(s, p);
-    let outcome = read.outcome;
+    let read = read_sheet(s);
+    let refusal = read.outcome;
+    if refusal.number != 0 {
+        return not_judged(refusal, no_ring());
+    }
+    let mut count = [0u8; 24];
+    let mut list = [0u8; 384];
+    let mut ahead = [0u16; 128];
+    let outcome = read_orders(
+        p,
+        read.sheet.zones,
+        &read.sheet.steps,
+        &read.sheet.zone,
+        &read.sheet.lane,
+        &mut count,
+        &mut list,
+        &mut ahead,
+    );
     if outcome.number != 0 {
         return not_judged(outcome, no_ring());
     }
     let sheet = read.sheet;
-    let orders = read.orders;
-    judge_orders(sheet, orders, words)
+    judge_orders(sheet, &count, &list, &ahead, words)
 }

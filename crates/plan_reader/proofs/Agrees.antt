@@ -9,8 +9,9 @@ use native.Mathlib.Decide.{decLt}
 use lib.Dec.{eqb}
 use lib.ListN.{length, getD}
 use borrow.Author.Tests.{eqb-true, not-true}
-use Rattle.words.specs.Lists.{each}
+use Rattle.words.specs.Lists.{pick, each}
 use Rattle.words.specs.Checks.{Check, check, firstFailing}
+use Rattle.words.specs.declared.Outcome.{Outcome}
 use Rattle.words.proofs.Tests.{and-both}
 use Rattle.fields.specs.Field.{fieldChecks}
 use Rattle.fields.specs.declared.Cursor.{Cursor}
@@ -23,15 +24,15 @@ use Rattle.plan.specs.Layout.{countAt, countOf, cartAt, cartOf}
 use Rattle.plan.specs.Lists.{visits, visitors}
 use Rattle.plan.specs.Checks.{isListed, cartChecks, listChecks, laneChecks, planChecks}
 use Rattle.plan.specs.Reading.{planRefused, planDone}
+use Rattle.plan.specs.declared.Orders.{Orders}
 use Rattle.plan.specs.declared.PlanRead.{PlanRead}
 use Rattle.plan.proofs.Visitors.{visitors-most}
 use Rattle.reader.proofs.Tables.{table-none, table-put}
 use Rattle.lists.specs.Sets.{whoVisits, mayLead, withCart, firstLate}
-use Rattle.lists.specs.Scan.{countTaken, cartTaken, noLists, putCount, putCart, Scanned, onTaken, cartsFrom, listsFrom}
-use Rattle.lists.specs.declared.Lists.{Lists}
+use Rattle.lists.specs.Scan.{Lists, countTaken, cartTaken, noLists, putCount, putCart, Scanned, onTaken, cartsFrom, listsFrom}
 use Rattle.lists.specs.declared.Taken.{Taken}
 use Rattle.lists.specs.declared.Taken.the-variants.{Got, Refused}
-use Rattle.plan_reader.specs.Scan.{ordersOf, finish, onScanned, fromLists, scan}
+use Rattle.plan_reader.specs.Scan.{Done, Refuses, planOf, ordersOf, finish, onScanned, fromLists, scan, sheetScan}
 use Rattle.plan_reader.proofs.Listed.{seen, seen-none, seen-has, seen-more, who, who-ones, who-has, visits-below, lead, late-is}
 use Rattle.plan_reader.proofs.ListTables.{listRule, beforeRule, listed, before, listed-none, before-none, listed-put, before-put}
 use Rattle.plan_reader.proofs.Rows.{rows-next}
@@ -44,7 +45,7 @@ module _ (sheet : Sheet) (valid : Valid sheet) (p : List ℕ) where
 
   -- the answer where all passes
   abbrev pub answer : PlanRead
-  answer = planDone sheet (ordersOf sheet (soFar (sheet .zones) (sheet .zones) 0 0))
+  answer = planDone sheet (ordersOf (sheet .steps) (sheet .zone) (soFar (sheet .zones) (sheet .zones) 0 0))
 
   abbrev tableAnswer : List Check → PlanRead
   tableAnswer = first answer sheet p
@@ -53,7 +54,7 @@ module _ (sheet : Sheet) (valid : Valid sheet) (p : List ℕ) where
   Late = LateIs answer sheet p
 
   abbrev whole : Scanned → PlanRead
-  whole r = onScanned r (finish p sheet)
+  whole r = planOf sheet (onScanned r (finish p (sheet .steps) (sheet .zone)))
 
   abbrev visitorsOf : List ℕ
   visitorsOf = whoVisits (sheet .steps) (sheet .zone)
@@ -115,11 +116,15 @@ module _ (sheet : Sheet) (valid : Valid sheet) (p : List ℕ) where
   last = check 20 (countAt p (sheet .zones)) (eqb (countAt p (sheet .zones)) (length p)) ∷ each (sheet .zones) 0 (laneChecks sheet p)
 
   finish-agrees : (late : ℕ) → Late (sheet .zones) 0 late
-      → finish p sheet (soFar (sheet .zones) (sheet .zones) 0 late) (record { at = countAt p (sheet .zones) }) ≡ tableAnswer last
+      → planOf sheet (finish p (sheet .steps) (sheet .zone) (soFar (sheet .zones) (sheet .zones) 0 late) (record { at = countAt p (sheet .zones) })) ≡ tableAnswer last
   unfolding finish each firstFailing
   finish-agrees late h =
-      pick-checks (λ r. r) planRefused answer 20 (countAt p (sheet .zones)) (eqb (countAt p (sheet .zones)) (length p)) _ (each (sheet .zones) 0 (laneChecks sheet p))
-      (sym (h .says []) ∙ ap tableAnswer (append-nil (each (sheet .zones) 0 (laneChecks sheet p))))
+      pick-checks (planOf sheet) Refuses answer 20 (countAt p (sheet .zones)) (eqb (countAt p (sheet .zones)) (length p)) _ (each (sheet .zones) 0 (laneChecks sheet p))
+      (told (eqb late 0) _ _ ∙ sym (h .says []) ∙ ap tableAnswer (append-nil (each (sheet .zones) 0 (laneChecks sheet p))))
+    where
+      told : (b : Bool) (orders : Orders) (outcome : Outcome) → planOf sheet (pick b (Done orders) (Refuses outcome)) ≡ pick b (planDone sheet orders) (planRefused outcome)
+      told true orders outcome = refl
+      told false orders outcome = refl
 
   lists-agree : (n z late : ℕ) → z + n ≡ sheet .zones → Late z 0 late
       → whole (listsFrom p visitorsOf leads n z (soFar z z 0 late) (record { at = countAt p z })) ≡ tableAnswer (each n z (listChecks sheet p) ++ last)
@@ -149,12 +154,12 @@ module _ (sheet : Sheet) (valid : Valid sheet) (p : List ℕ) where
   nothing-yet : noLists ≡ soFar 0 0 0 0
   nothing-yet = rw (← table-none 24 (countOf p), ← listed-none p, ← before-none p)
 
-  pub scan-agrees : scan p sheet ≡ tableAnswer (planChecks sheet p)
+  pub scan-agrees : planOf sheet (sheetScan p sheet) ≡ tableAnswer (planChecks sheet p)
   unfolding scan planChecks fromLists countAt
   scan-agrees =
       simp append-assoc
-      (taking-checks (λ r. r) planRefused answer 15 p 1 0 16 _ _ _ λ _ _.
-      taking-checks (λ r. r) planRefused answer 15 p 2 1 17 _ _ _ λ _ _.
-      taking-checks (λ r. r) planRefused answer 15 p 1 3 18 _ _ _ λ _ _.
+      (taking-checks (planOf sheet) Refuses answer 15 p 1 0 16 _ _ _ λ _ _.
+      taking-checks (planOf sheet) Refuses answer 15 p 2 1 17 _ _ _ λ _ _.
+      taking-checks (planOf sheet) Refuses answer 15 p 1 3 18 _ _ _ λ _ _.
       ap (λ (l : Lists). whole (listsFrom p visitorsOf leads (sheet .zones) 0 l (record { at = 4 }))) nothing-yet
       ∙ lists-agree (sheet .zones) 0 0 (omega arith) (late-none answer sheet p))

@@ -7,3 +7,4 @@ pub mod ListTables
 pub mod Late
 pub mod Agrees
 pub mod Answer
+pub mod ReadLaws

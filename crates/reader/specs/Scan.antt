@@ -29,12 +29,12 @@ withZones sh n =
       travel = sh .travel;
     }
 
-abbrev pub putZone : Sheet → ℕ → ℕ → ℕ → Sheet
-putZone sh z follow cross =
+abbrev pub withGaps : Sheet → List ℕ → List ℕ → Sheet
+withGaps sh follow cross =
     record {
       zones = sh .zones;
-      follow = set (sh .follow) z follow;
-      cross = set (sh .cross) z cross;
+      follow = follow;
+      cross = cross;
       carts = sh .carts;
       lane = sh .lane;
       arrival = sh .arrival;
@@ -43,6 +43,9 @@ putZone sh z follow cross =
       passing = sh .passing;
       travel = sh .travel;
     }
+
+abbrev pub putZone : Sheet → ℕ → ℕ → ℕ → Sheet
+putZone sh z follow cross = withGaps sh (set (sh .follow) z follow) (set (sh .cross) z cross)
 
 abbrev pub withCarts : Sheet → ℕ → Sheet
 withCarts sh m =

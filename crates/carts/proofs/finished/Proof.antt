@@ -1,33 +1,31 @@
--- The loop keeps that the lanes' checks from its start are those that are left.
+-- The loop keeps, of every sheet with these lanes and arrivals, that the checks from its start are those that are left.
 use Prim.Native.Nat.{_-_, _≤_}
-use mathlib.Core.Path.{_≡_, sym, _∙_}
+use mathlib.Core.Path.{_≡_, refl, sym, _∙_}
+use mathlib.Core.Logic.{inl, inr}
 use native.Mathlib.Omega.{arith}
-use borrow.Author.Tests.{eq-eqb, ne-eqb}
-use Rattle.carts.specs.Scan.{lanesFrom, finish}
-use Rattle.words.proofs.Left.{left-all, left-suc, left-zero}
+use lib.Dec.{lit<}
+use Rattle.sheet.specs.declared.Sheet.{Sheet}
+use Rattle.words.proofs.Left.{left-all}
+use Rattle.carts.specs.Scan.{lanesFrom, HasArrivals}
+use Rattle.carts.proofs.ScanLaws.{finish-refused, finish-lanes, lanes-refused, lanes-next, lanes-end}
 use borrow.Author.Needs.{needs}
 use Rattle.carts.proofs.finished.Statement.{statement}
 use Rattle.carts.proofs.finished.Tie as tie
 
 abbrev Inv-loop : tie.InvT-loop
-Inv-loop s sheet spot m lane arrival i₀ i =
-    (i ≤ m) × (lanesFrom sheet spot m 0 ≡ lanesFrom sheet spot (m - i) i)
+Inv-loop s m lane arrival spot i₀ i = (i ≤ m) × ((sh : Sheet) → HasArrivals sh lane arrival m → lanesFrom sh spot m 0 ≡ lanesFrom sh spot (m - i) i)
 
 abbrev μ-loop : tie.MeasureT-loop
-μ-loop s sheet spot m lane arrival i₀ i = m - i
+μ-loop s m lane arrival spot i₀ i = m - i
 
 refused-requires : tie.Need-refused-requires Inv-loop μ-loop
 refused-requires c κs = search needs
 
-sheet-refused-requires : tie.Need-sheet-refused-requires Inv-loop μ-loop
-sheet-refused-requires c κs = search needs
-
 returns : tie.Need-returns Inv-loop μ-loop
-unfolding finish
-returns c = rw (c .sheet-refused .ensures, c .before .refused .ensures, ne-eqb _ _ (c .before .before .if1 .taken))
+returns c = λ sh has. rw (c .refused .ensures) (inr (lit< tt, finish-refused _ _ _ _ (c .before .if1 .taken)))
 
 loop-holds : tie.Need-loop-holds Inv-loop μ-loop
-loop-holds c = (omega arith, rw left-all)
+loop-holds c = (omega arith, λ sh has. rw left-all)
 
 is-early-requires : tie.Need-is-early-requires Inv-loop μ-loop
 is-early-requires c κs = omega arith
@@ -35,18 +33,14 @@ is-early-requires c κs = omega arith
 mul-refused : tie.Need-mul-refused Inv-loop μ-loop
 mul-refused c = omega arith
 
-array-read-refused : tie.Need-array-read-refused Inv-loop μ-loop
-array-read-refused c = omega arith
+element-copy-out-refused : tie.Need-element-copy-out-refused Inv-loop μ-loop
+element-copy-out-refused c = omega arith
 
 refused-requires-2 : tie.Need-refused-requires-2 Inv-loop μ-loop
 refused-requires-2 c κs = search needs
 
-sheet-refused-requires-2 : tie.Need-sheet-refused-requires-2 Inv-loop μ-loop
-sheet-refused-requires-2 c κs = search needs
-
 returns-2 : tie.Need-returns-2 Inv-loop μ-loop
-unfolding finish lanesFrom
-returns-2 c = rw (c .sheet-refused2 .ensures, c .before .refused2 .ensures, eq-eqb _ _ (c .before .before .before .before .before .before .before .before .before .before .if1 .left), c .before .before .before .before .before .before .before .loop .inv .1, left-suc _ _ (c .before .before .before .before .before .before .loop-test .taken), sym (c .before .before .before .is-early .ensures) ∙ c .before .before .if2 .taken)
+returns-2 c = λ sh has. rw (c .refused2 .ensures) (inr (lit< tt, finish-lanes _ _ _ _ (c .before .before .before .before .before .before .if1 .left) _ (has .2) ∙ c .before .before .before .before .before .loop .inv .1 sh has ∙ lanes-refused _ _ _ _ _ _ has (c .before .before .before .before .loop-test .taken) (sym (c .before .before .before .is-early .ensures) ∙ c .before .before .if2 .taken)))
 
 add-i : tie.Need-add-i Inv-loop μ-loop
 add-i c = omega arith
@@ -55,12 +49,10 @@ loop-less : tie.Need-loop-less Inv-loop μ-loop
 loop-less c = omega arith
 
 loop-again : tie.Need-loop-again Inv-loop μ-loop
-unfolding lanesFrom
-loop-again c = (omega arith, c .before .before .before .before .before .loop .inv .1 ∙ rw (left-suc _ _ (c .before .before .before .before .loop-test .taken), sym (c .before .is-early .ensures) ∙ c .if2 .left))
+loop-again c = (omega arith, λ sh has. c .before .before .before .loop .inv .1 sh has ∙ lanes-next _ _ _ _ _ _ has (c .before .before .loop-test .taken) (sym (c .before .is-early .ensures) ∙ c .if2 .left))
 
 returns-3 : tie.Need-returns-3 Inv-loop μ-loop
-unfolding finish lanesFrom
-returns-3 c = rw (eq-eqb _ _ (c .before .before .before .before .if1 .left), c .before .loop .inv .1, left-zero _ _ (c .loop-test .left))
+returns-3 c = λ sh has. inl (refl, finish-lanes _ _ _ _ (c .before .before .if1 .left) _ (has .2) ∙ c .before .loop .inv .1 sh has ∙ lanes-end _ _ _ _ _ _ has (c .loop-test .left))
 
 pub finished-spec : {M : Type 1} → statement M
 finished-spec =
@@ -69,14 +61,12 @@ finished-spec =
     Inv-loop
     μ-loop
     refused-requires
-    sheet-refused-requires
     returns
     loop-holds
     is-early-requires
     mul-refused
-    array-read-refused
+    element-copy-out-refused
     refused-requires-2
-    sheet-refused-requires-2
     returns-2
     add-i
     loop-less

@@ -13,16 +13,16 @@ abbrev μ-loop : tie.MeasureT-loop
 μ-loop steps zone before ahead₀ x₀ ahead x = 128 - x
 
 loop-holds : tie.Need-loop-holds Inv-loop μ-loop
-loop-holds c = (omega arith, ahead-none _ _ _)
+loop-holds c = (omega arith, c .pre .1 ∙ ahead-none _ _ _)
 
 ahead-at-requires : tie.Need-ahead-at-requires Inv-loop μ-loop
-ahead-at-requires c κs = (omega arith, c .before .before .pre)
+ahead-at-requires c κs = (omega arith, c .before .before .pre .0)
 
 mul-ahead : tie.Need-mul-ahead Inv-loop μ-loop
 mul-ahead c = omega arith
 
-array-write-ahead : tie.Need-array-write-ahead Inv-loop μ-loop
-array-write-ahead c = omega arith
+element-write-ahead : tie.Need-element-write-ahead Inv-loop μ-loop
+element-write-ahead c = omega arith
 
 add-x : tie.Need-add-x Inv-loop μ-loop
 add-x c = omega arith
@@ -31,7 +31,7 @@ loop-less : tie.Need-loop-less Inv-loop μ-loop
 loop-less c = omega arith
 
 loop-again : tie.Need-loop-again Inv-loop μ-loop
-loop-again c = (omega arith, ahead-next _ _ _ _ _ _ (c .before .loop-test .taken) (c .before .before .loop .inv .1) (c .ahead-at .ensures))
+loop-again c = (omega arith, ahead-next _ _ _ _ _ _ (omega arith) (c .before .before .loop .inv .1) (c .ahead-at .ensures))
 
 returns : tie.Need-returns Inv-loop μ-loop
 returns c = c .before .loop .inv .1 ∙ ahead-all _ _ _ _ (omega arith)
@@ -45,7 +45,7 @@ ahead-of-spec =
     loop-holds
     ahead-at-requires
     mul-ahead
-    array-write-ahead
+    element-write-ahead
     add-x
     loop-less
     loop-again

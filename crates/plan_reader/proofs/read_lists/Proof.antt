@@ -1,55 +1,47 @@
 -- Each way out is what is left of the pass where the scan of the lists is left, by the tests that follow it.
-use mathlib.Core.Path.{sym, _∙_}
+use mathlib.Core.Path.{refl}
+use mathlib.Core.Logic.{inl, inr}
+use native.Mathlib.Omega.{arith}
 use borrow.Author.Tests.{eq-eqb, ne-eqb}
 use Rattle.lists.proofs.VisitLaws.{visits-sets}
 use Rattle.plan_reader.specs.Scan.{finish}
-use Rattle.plan_reader.proofs.ValidLaws.{valid-routes, valid-lanes}
 use Rattle.plan_reader.proofs.LeftLaws.{left-refused, left-read}
 use borrow.Author.Needs.{needs}
 use Rattle.plan_reader.proofs.read_lists.Statement.{statement}
 use Rattle.plan_reader.proofs.read_lists.Tie as tie
 
 who-visits-requires : tie.Need-who-visits-requires
-who-visits-requires c κs = valid-routes _ (c .before .before .before .before .before .pre)
+who-visits-requires c κs = search needs
 
 may-lead-requires : tie.Need-may-lead-requires
-may-lead-requires c κs = valid-lanes _ (c .before .before .before .before .before .before .before .before .pre)
+may-lead-requires c κs = search needs
 
 scan-lists-requires : tie.Need-scan-lists-requires
-scan-lists-requires c κs = (c .before .before .before .before .before .before .before .before .before .before .before .pre .zones-most, rw (c .before .before .before .before .before .who-visits .ensures) (visits-sets _ _))
-
-plan-refused-requires : tie.Need-plan-refused-requires
-plan-refused-requires c κs = search needs
+scan-lists-requires c κs = (c .before .before .before .before .before .before .before .before .pre .0 .zones-most, rw (c .before .before .before .before .before .before .who-visits .ensures) (visits-sets _ _), (c .before .before .before .before .before .before .before .before .pre .1 .0, c .before .before .before .before .before .before .before .before .pre .1 .1, refl))
 
 returns : tie.Need-returns
-returns c = c .plan-refused .ensures ∙ sym (left-refused _ _ _ _ _ _ (c .before .before .before .before .before .before .before .before .before .before .who-visits .ensures) (c .before .before .before .before .before .before .before .may-lead .ensures) (c .before .before .before .before .scan-lists .ensures) (c .before .if1 .taken))
+returns c = inr (omega (arith, c .if1 .taken), left-refused _ _ _ _ _ _ _ _ _ _ _ _ (c .before .before .before .before .before .before .before .before .before .before .who-visits .ensures) (c .before .before .before .before .before .before .before .before .before .may-lead .ensures) (c .before .before .before .scan-lists .ensures) (c .if1 .taken))
 
 refused-requires : tie.Need-refused-requires
 refused-requires c κs = search needs
 
-plan-refused-requires-2 : tie.Need-plan-refused-requires-2
-plan-refused-requires-2 c κs = search needs
-
 returns-2 : tie.Need-returns-2
 unfolding finish
-returns-2 c = rw (c .plan-refused2 .ensures, c .before .refused .ensures, left-read _ (c .before .before .before .before .before .before .before .before .before .before .before .before .before .before .before .before .before .before .before .args .t3) _ _ _ _ (c .before .before .before .before .before .before .before .before .before .before .before .before .before .who-visits .ensures) (c .before .before .before .before .before .before .before .before .before .before .may-lead .ensures) (c .before .before .before .before .before .before .before .scan-lists .ensures) (c .before .before .before .before .if1 .left), ne-eqb _ _ (c .before .before .if2 .taken))
+returns-2 c = inr (rw (c .refused .ensures) (omega arith), rw (c .refused .ensures, left-read _ _ _ _ _ _ _ _ _ _ _ _ (c .before .before .before .before .before .before .before .before .before .before .before .before .before .who-visits .ensures) (c .before .before .before .before .before .before .before .before .before .before .before .before .may-lead .ensures) (c .before .before .before .before .before .before .scan-lists .ensures) (c .before .before .before .if1 .left), ne-eqb _ _ (c .before .if2 .taken)))
 
 refused-requires-2 : tie.Need-refused-requires-2
 refused-requires-2 c κs = search needs
 
-plan-refused-requires-3 : tie.Need-plan-refused-requires-3
-plan-refused-requires-3 c κs = search needs
-
 returns-3 : tie.Need-returns-3
 unfolding finish
-returns-3 c = rw (c .plan-refused3 .ensures, c .before .refused2 .ensures, left-read _ (c .before .before .before .before .before .before .before .before .before .before .before .before .before .before .before .before .before .before .before .before .args .t3) _ _ _ _ (c .before .before .before .before .before .before .before .before .before .before .before .before .before .before .who-visits .ensures) (c .before .before .before .before .before .before .before .before .before .before .before .may-lead .ensures) (c .before .before .before .before .before .before .before .before .scan-lists .ensures) (c .before .before .before .before .before .if1 .left), eq-eqb _ _ (c .before .before .before .if2 .left), ne-eqb _ _ (c .before .before .if3 .taken))
+returns-3 c = inr (rw (c .refused2 .ensures) (omega arith), rw (c .refused2 .ensures, left-read _ _ _ _ _ _ _ _ _ _ _ _ (c .before .before .before .before .before .before .before .before .before .before .before .before .before .before .before .who-visits .ensures) (c .before .before .before .before .before .before .before .before .before .before .before .before .before .before .may-lead .ensures) (c .before .before .before .before .before .before .before .before .scan-lists .ensures) (c .before .before .before .before .before .if1 .left), eq-eqb _ _ (c .before .before .before .if2 .left), ne-eqb _ _ (c .before .if3 .taken)))
 
 ahead-of-requires : tie.Need-ahead-of-requires
-ahead-of-requires c κs = valid-routes _ (c .before .before .before .before .before .before .before .before .before .before .before .before .before .before .before .before .before .before .before .before .before .before .pre)
+ahead-of-requires c κs = (c .before .before .before .before .before .before .before .before .before .before .before .before .before .before .before .before .before .before .pre .0 .routes, c .before .before .before .before .before .before .before .before .before .before .before .before .before .before .before .before .before .before .pre .1 .2)
 
 returns-4 : tie.Need-returns-4
 unfolding finish
-returns-4 c = rw (left-read _ (c .before .before .before .before .before .before .before .before .before .before .before .before .before .before .before .before .before .before .before .before .before .before .before .before .before .args .t3) _ _ _ _ (c .before .before .before .before .before .before .before .before .before .before .before .before .before .before .before .before .before .before .before .who-visits .ensures) (c .before .before .before .before .before .before .before .before .before .before .before .before .before .before .before .before .may-lead .ensures) (c .before .before .before .before .before .before .before .before .before .before .before .before .before .scan-lists .ensures) (c .before .before .before .before .before .before .before .before .before .before .if1 .left), eq-eqb _ _ (c .before .before .before .before .before .before .before .before .if2 .left), eq-eqb _ _ (c .before .before .before .before .before .before .before .if3 .left), c .before .before .ahead-of .ensures)
+returns-4 c = inl (refl, rw (left-read _ _ _ _ _ _ _ _ _ _ _ _ (c .before .before .before .before .before .before .before .before .before .before .before .before .before .before .before .before .before .who-visits .ensures) (c .before .before .before .before .before .before .before .before .before .before .before .before .before .before .before .before .may-lead .ensures) (c .before .before .before .before .before .before .before .before .before .before .scan-lists .ensures) (c .before .before .before .before .before .before .before .if1 .left), eq-eqb _ _ (c .before .before .before .before .before .if2 .left), eq-eqb _ _ (c .before .before .before .if3 .left), c .ahead-of .ensures))
 
 pub read-lists-spec : {M : Type 1} → statement M
 read-lists-spec =
@@ -58,13 +50,10 @@ read-lists-spec =
     who-visits-requires
     may-lead-requires
     scan-lists-requires
-    plan-refused-requires
     returns
     refused-requires
-    plan-refused-requires-2
     returns-2
     refused-requires-2
-    plan-refused-requires-3
     returns-3
     ahead-of-requires
     returns-4)

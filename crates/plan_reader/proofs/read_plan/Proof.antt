@@ -1,8 +1,6 @@
--- A refused sheet's outcome is the plan's; of an accepted one the pass over the plan is the table's answer.
-use mathlib.Core.Path.{sym, ap, _∙_}
-use Rattle.sheet.specs.declared.SheetRead.{SheetRead}
-use Rattle.sheet.proofs.Accepted.{accepted-valid}
-use Rattle.plan_reader.proofs.Answer.{read-refused, read-accepted}
+-- What the two steps of reading answered is what reading the plan answers.
+use mathlib.Core.Path.{refl}
+use Rattle.plan_reader.proofs.ReadLaws.{sheet-refused, tables-fit, orders-refused, orders-read}
 use borrow.Author.Needs.{needs}
 use Rattle.plan_reader.proofs.read_plan.Statement.{statement}
 use Rattle.plan_reader.proofs.read_plan.Tie as tie
@@ -14,15 +12,28 @@ plan-refused-requires : tie.Need-plan-refused-requires
 plan-refused-requires c κs = search needs
 
 returns : tie.Need-returns
-returns c = rw (c .plan-refused .ensures, read-refused _ _ (λ e. c .before .if1 .taken (ap (λ (r : SheetRead). r .outcome .number) (c .before .before .before .before .read-sheet .ensures) ∙ e)), c .before .before .before .before .read-sheet .ensures)
+returns c = rw (c .plan-refused .ensures, sheet-refused _ _ _ (c .before .before .before .before .read-sheet .ensures) (c .before .if1 .taken))
 
-read-head-requires : tie.Need-read-head-requires
-read-head-requires c κs = rw (c .before .before .before .before .read-sheet .ensures) (accepted-valid _ (sym (ap (λ (r : SheetRead). r .outcome .number) (c .before .before .before .before .read-sheet .ensures)) ∙ c .before .if1 .left))
+read-orders-requires : tie.Need-read-orders-requires
+read-orders-requires c κs = (tables-fit _ (c .before .before .before .before .before .before .before .before .before .before .before .before .before .args .p .now) _ (c .before .before .before .before .before .before .before .before .before .before .read-sheet .ensures) (c .before .before .before .before .before .before .before .if1 .left), (refl, refl, refl))
+
+plan-refused-requires-2 : tie.Need-plan-refused-requires-2
+plan-refused-requires-2 c κs = search needs
 
 returns-2 : tie.Need-returns-2
-returns-2 c = rw (c .read-head .ensures, ← read-accepted _ _ (sym (ap (λ (r : SheetRead). r .outcome .number) (c .before .before .before .before .before .read-sheet .ensures)) ∙ c .before .before .if1 .left), c .before .before .before .before .before .read-sheet .ensures)
+returns-2 c = rw (c .plan-refused2 .ensures, orders-refused _ _ _ (c .before .before .before .before .before .before .before .before .before .before .before .before .before .before .read-sheet .ensures) (c .before .before .before .before .before .before .before .before .before .before .before .if1 .left) _ _ _ _ (c .before .before .before .read-orders .ensures) (c .before .if2 .taken))
+
+returns-3 : tie.Need-returns-3
+returns-3 c = rw (orders-read _ _ _ (c .before .before .before .before .before .before .before .before .before .before .before .before .before .before .read-sheet .ensures) (c .before .before .before .before .before .before .before .before .before .before .before .if1 .left) _ _ _ _ (c .before .before .before .read-orders .ensures) (c .before .if2 .left))
 
 pub read-plan-spec : {M : Type 1} → statement M
 read-plan-spec =
     tie.close
-    (tie.spec read-sheet-requires plan-refused-requires returns read-head-requires returns-2)
+    (tie.spec
+    read-sheet-requires
+    plan-refused-requires
+    returns
+    read-orders-requires
+    plan-refused-requires-2
+    returns-2
+    returns-3)

@@ -1,162 +1,40 @@
--- Each way out is the scan's, by the fields that are there and the tests that they pass; the scan is the table's answer.
+-- The counts leave the rest to the carts, these the sheet; or the refusal of one is the answer. The whole pass is the table's.
 use mathlib.Core.Path.{sym, _∙_}
-use borrow.Author.Tests.{le-leb, lt-leb, eq-eqb, ne-eqb}
-use Rattle.fields.specs.Field.{taking}
-use Rattle.reader.specs.Scan.{scan}
+use Rattle.carts.proofs.ScanLaws.{left-refused, left-then, left-answers}
 use Rattle.reader.proofs.Agrees.{scan-agrees}
 use borrow.Author.Needs.{needs}
 use Rattle.reader.proofs.read_sheet.Statement.{statement}
 use Rattle.reader.proofs.read_sheet.Tie as tie
 
-one-byte-requires : tie.Need-one-byte-requires
-one-byte-requires c κs = search needs
-
-enum-known-version : tie.Need-enum-known-version
-enum-known-version c = search needs
-
-enum-told : tie.Need-enum-told
-enum-told c = search needs
-
-refused-requires : tie.Need-refused-requires
-refused-requires c κs = search needs
+read-counts-requires : tie.Need-read-counts-requires
+read-counts-requires c κs = search needs
 
 sheet-refused-requires : tie.Need-sheet-refused-requires
 sheet-refused-requires c κs = search needs
 
 returns : tie.Need-returns
-unfolding scan taking
-returns c = rw (← scan-agrees, c .sheet-refused .ensures, c .before .refused .ensures, sym (c .before .before .before .before .one-byte .ensures) ∙ c .before .before .enum-told .given .1)
+returns c = c .sheet-refused .ensures ∙ sym (left-refused (c .before .before .before .before .read-counts .ensures .2) (c .before .if1 .taken) .1) ∙ scan-agrees _
 
-refused-requires-2 : tie.Need-refused-requires-2
-refused-requires-2 c κs = search needs
+read-carts-requires : tie.Need-read-carts-requires
+read-carts-requires c κs = search needs
 
 sheet-refused-requires-2 : tie.Need-sheet-refused-requires-2
 sheet-refused-requires-2 c κs = search needs
 
 returns-2 : tie.Need-returns-2
-unfolding scan taking
-returns-2 c = rw (← scan-agrees, c .sheet-refused2 .ensures, c .before .refused2 .ensures, sym (c .before .before .before .before .before .before .one-byte .ensures) ∙ c .before .before .before .before .version .given .1, ne-eqb _ _ (c .before .before .if1 .taken))
-
-two-bytes-requires : tie.Need-two-bytes-requires
-two-bytes-requires c κs = search needs
-
-enum-known-total : tie.Need-enum-known-total
-enum-known-total c = search needs
-
-enum-told-2 : tie.Need-enum-told-2
-enum-told-2 c = search needs
-
-refused-requires-3 : tie.Need-refused-requires-3
-refused-requires-3 c κs = search needs
-
-sheet-refused-requires-3 : tie.Need-sheet-refused-requires-3
-sheet-refused-requires-3 c κs = search needs
+returns-2 c = c .sheet-refused2 .ensures ∙ sym (left-refused (left-then (c .before .before .before .before .before .before .before .before .before .before .before .before .before .read-counts .ensures .2) (c .before .before .before .before .before .before .before .before .before .before .if1 .left) (c .before .before .before .read-carts .ensures _ _)) (c .before .if2 .taken) .1) ∙ scan-agrees _
 
 returns-3 : tie.Need-returns-3
-unfolding scan taking
-returns-3 c = rw (← scan-agrees, c .sheet-refused3 .ensures, c .before .refused3 .ensures, sym (c .before .before .before .before .before .before .before .before .before .one-byte .ensures) ∙ c .before .before .before .before .before .before .before .version .given .1, eq-eqb _ _ (c .before .before .before .before .before .if1 .left), sym (c .before .before .before .before .two-bytes .ensures) ∙ c .before .before .enum-told2 .given .1)
-
-cast-if2 : tie.Need-cast-if2
-cast-if2 c = search needs
-
-refused-requires-4 : tie.Need-refused-requires-4
-refused-requires-4 c κs = search needs
-
-sheet-refused-requires-4 : tie.Need-sheet-refused-requires-4
-sheet-refused-requires-4 c κs = search needs
-
-returns-4 : tie.Need-returns-4
-unfolding scan taking
-returns-4 c = rw (← scan-agrees, c .sheet-refused4 .ensures, c .before .refused4 .ensures, sym (c .before .before .before .before .before .before .before .before .before .before .before .one-byte .ensures) ∙ c .before .before .before .before .before .before .before .before .before .version .given .1, eq-eqb _ _ (c .before .before .before .before .before .before .before .if1 .left), sym (c .before .before .before .before .before .before .two-bytes .ensures) ∙ c .before .before .before .before .total .given .1, ne-eqb _ _ (c .before .before .if2 .taken))
-
-one-byte-requires-2 : tie.Need-one-byte-requires-2
-one-byte-requires-2 c κs = search needs
-
-enum-known-n : tie.Need-enum-known-n
-enum-known-n c = search needs
-
-enum-told-3 : tie.Need-enum-told-3
-enum-told-3 c = search needs
-
-refused-requires-5 : tie.Need-refused-requires-5
-refused-requires-5 c κs = search needs
-
-sheet-refused-requires-5 : tie.Need-sheet-refused-requires-5
-sheet-refused-requires-5 c κs = search needs
-
-returns-5 : tie.Need-returns-5
-unfolding scan taking
-returns-5 c = rw (← scan-agrees, c .sheet-refused5 .ensures, c .before .refused5 .ensures, sym (c .before .before .before .before .before .before .before .before .before .before .before .before .before .before .one-byte .ensures) ∙ c .before .before .before .before .before .before .before .before .before .before .before .before .version .given .1, eq-eqb _ _ (c .before .before .before .before .before .before .before .before .before .before .if1 .left), sym (c .before .before .before .before .before .before .before .before .before .two-bytes .ensures) ∙ c .before .before .before .before .before .before .before .total .given .1, eq-eqb _ _ (c .before .before .before .before .before .if2 .left), sym (c .before .before .before .before .one-byte2 .ensures) ∙ c .before .before .enum-told3 .given .1)
-
-refused-requires-6 : tie.Need-refused-requires-6
-refused-requires-6 c κs = search needs
-
-sheet-refused-requires-6 : tie.Need-sheet-refused-requires-6
-sheet-refused-requires-6 c κs = search needs
-
-returns-6 : tie.Need-returns-6
-unfolding scan taking
-returns-6 c = rw (← scan-agrees, c .sheet-refused6 .ensures, c .before .refused6 .ensures, sym (c .before .before .before .before .before .before .before .before .before .before .before .before .before .before .before .before .one-byte .ensures) ∙ c .before .before .before .before .before .before .before .before .before .before .before .before .before .before .version .given .1, eq-eqb _ _ (c .before .before .before .before .before .before .before .before .before .before .before .before .if1 .left), sym (c .before .before .before .before .before .before .before .before .before .before .before .two-bytes .ensures) ∙ c .before .before .before .before .before .before .before .before .before .total .given .1, eq-eqb _ _ (c .before .before .before .before .before .before .before .if2 .left), sym (c .before .before .before .before .before .before .one-byte2 .ensures) ∙ c .before .before .before .before .n .given .1, lt-leb _ _ (c .before .before .if3 .taken))
-
-refused-requires-7 : tie.Need-refused-requires-7
-refused-requires-7 c κs = search needs
-
-sheet-refused-requires-7 : tie.Need-sheet-refused-requires-7
-sheet-refused-requires-7 c κs = search needs
-
-returns-7 : tie.Need-returns-7
-unfolding scan taking
-returns-7 c = rw (← scan-agrees, c .sheet-refused7 .ensures, c .before .refused7 .ensures, sym (c .before .before .before .before .before .before .before .before .before .before .before .before .before .before .before .before .before .one-byte .ensures) ∙ c .before .before .before .before .before .before .before .before .before .before .before .before .before .before .before .version .given .1, eq-eqb _ _ (c .before .before .before .before .before .before .before .before .before .before .before .before .before .if1 .left), sym (c .before .before .before .before .before .before .before .before .before .before .before .before .two-bytes .ensures) ∙ c .before .before .before .before .before .before .before .before .before .before .total .given .1, eq-eqb _ _ (c .before .before .before .before .before .before .before .before .if2 .left), sym (c .before .before .before .before .before .before .before .one-byte2 .ensures) ∙ c .before .before .before .before .before .n .given .1, le-leb _ _ (c .before .before .before .if3 .left), lt-leb _ _ (c .before .before .if4 .taken))
-
-blank-sheet-requires : tie.Need-blank-sheet-requires
-blank-sheet-requires c κs = search needs
-
-cast-sheet : tie.Need-cast-sheet
-cast-sheet c = search needs
-
-read-zones-requires : tie.Need-read-zones-requires
-read-zones-requires c κs = search needs
-
-returns-8 : tie.Need-returns-8
-unfolding scan taking
-returns-8 c = rw (← scan-agrees, c .read-zones .ensures, sym (c .before .before .before .before .before .before .before .before .before .before .before .before .before .before .before .before .before .one-byte .ensures) ∙ c .before .before .before .before .before .before .before .before .before .before .before .before .before .before .before .version .given .1, eq-eqb _ _ (c .before .before .before .before .before .before .before .before .before .before .before .before .before .if1 .left), sym (c .before .before .before .before .before .before .before .before .before .before .before .before .two-bytes .ensures) ∙ c .before .before .before .before .before .before .before .before .before .before .total .given .1, eq-eqb _ _ (c .before .before .before .before .before .before .before .before .if2 .left), sym (c .before .before .before .before .before .before .before .one-byte2 .ensures) ∙ c .before .before .before .before .before .n .given .1, le-leb _ _ (c .before .before .before .if3 .left), le-leb _ _ (c .before .before .if4 .left), c .before .blank-sheet .ensures)
+returns-3 c = left-answers (left-then (c .before .before .before .before .before .before .before .before .before .before .before .before .read-counts .ensures .2) (c .before .before .before .before .before .before .before .before .before .if1 .left) (c .before .before .read-carts .ensures _ _)) (c .if2 .left) ∙ scan-agrees _
 
 pub read-sheet-spec : {M : Type 1} → statement M
 read-sheet-spec =
     tie.close
     (tie.spec
-    one-byte-requires
-    enum-known-version
-    enum-told
-    refused-requires
+    read-counts-requires
     sheet-refused-requires
     returns
-    refused-requires-2
+    read-carts-requires
     sheet-refused-requires-2
     returns-2
-    two-bytes-requires
-    enum-known-total
-    enum-told-2
-    refused-requires-3
-    sheet-refused-requires-3
-    returns-3
-    cast-if2
-    refused-requires-4
-    sheet-refused-requires-4
-    returns-4
-    one-byte-requires-2
-    enum-known-n
-    enum-told-3
-    refused-requires-5
-    sheet-refused-requires-5
-    returns-5
-    refused-requires-6
-    sheet-refused-requires-6
-    returns-6
-    refused-requires-7
-    sheet-refused-requires-7
-    returns-7
-    blank-sheet-requires
-    cast-sheet
-    read-zones-requires
-    returns-8)
+    returns-3)

@@ -12,9 +12,9 @@ use words::refused;
 ghost use mathlib.Core.Path.{_≡_};
 ghost use Prim.Native.Nat.{_≤_};
 ghost use lib.ListN.{replicate};
-ghost use Rattle.sheet.specs.Reading.{blank, readSheet};
+ghost use Rattle.sheet.specs.Reading.{blank, sheetDone, readSheet};
 ghost use Rattle.sheet.specs.declared.Sheet.{Sheet};
-ghost use Rattle.carts.specs.Scan.{cartsFrom, Left};
+ghost use Rattle.carts.specs.Scan.{cartsFrom, asSheet, Left};
 ghost use Rattle.reader.specs.Scan.{withZones, withGaps, withCarts, countFrom, zonesFrom, scan};
 
 // The counts read so far: number 0 and the place of the next field, or a refusal.
@@ -150,6 +150,42 @@ fn read_counts(s: &[u8], follow: &mut [u16; 24], cross: &mut [u16; 24]) -> Count
     }
 }
 
+// The whole pass, into tables of zeros: the counts with number 0, or a refusal.
+fn fill(
+    s: &[u8],
+    follow: &mut [u16; 24],
+    cross: &mut [u16; 24],
+    lane: &mut [u8; 16],
+    arrival: &mut [u32; 16],
+    steps: &mut [u8; 16],
+    zone: &mut [u8; 128],
+    passing: &mut [u16; 128],
+    travel: &mut [u16; 128],
+) -> Counts
+    requires { ⌜ (now follow ≡ replicate 24 0) × (now cross ≡ replicate 24 0) × (now lane ≡ replicate 16 0) × (now arrival ≡ replicate 16 0) × (now steps ≡ replicate 16 0) × (now zone ≡ replicate 128 0) × (now passing ≡ replicate 128 0) × (now travel ≡ replicate 128 0) ⌝ }
+    ensures { λ r. ⌜ Left (scan (now (s .entry))) (sheetDone (asSheet (r .zones) (now (follow .exit)) (now (cross .exit)) (r .carts) (now (lane .exit)) (now (arrival .exit)) (now (steps .exit)) (now (zone .exit)) (now (passing .exit)) (now (travel .exit)))) (r .outcome) ⌝ }
+{
+    let mut counts = read_counts(s, follow, cross);
+    let outcome = counts.outcome;
+    if outcome.number != 0 {
+        return counts;
+    }
+    let c = Cursor { at: counts.at };
+    counts.outcome = read_carts(
+        s,
+        c,
+        counts.zones,
+        counts.carts,
+        lane,
+        arrival,
+        steps,
+        zone,
+        passing,
+        travel,
+    );
+    counts
+}
+
 // A crossing sheet, for every byte string: done with the sheet, or the first of checks 1 to 14 that fails.
 pub fn read_sheet(s: &[u8]) -> SheetRead
     ensures { λ r. ⌜ r ≡ readSheet (now (s .entry)) ⌝ }
@@ -162,17 +198,10 @@ pub fn read_sheet(s: &[u8]) -> SheetRead
     let mut zone = [0u8; 128];
     let mut passing = [0u16; 128];
     let mut travel = [0u16; 128];
-    let counts = read_counts(s, &mut follow, &mut cross);
-    let outcome = counts.outcome;
-    if outcome.number != 0 {
-        return sheet_refused(outcome);
-    }
-    let c = Cursor { at: counts.at };
-    let outcome2 = read_carts(
+    let counts = fill(
         s,
-        c,
-        counts.zones,
-        counts.carts,
+        &mut follow,
+        &mut cross,
         &mut lane,
         &mut arrival,
         &mut steps,
@@ -180,8 +209,9 @@ pub fn read_sheet(s: &[u8]) -> SheetRead
         &mut passing,
         &mut travel,
     );
-    if outcome2.number != 0 {
-        return sheet_refused(outcome2);
+    let outcome = counts.outcome;
+    if outcome.number != 0 {
+        return sheet_refused(outcome);
     }
     let sheet = Sheet {
         zones: counts.zones,
@@ -195,8 +225,5 @@ pub fn read_sheet(s: &[u8]) -> SheetRead
         passing,
         travel,
     };
-    SheetRead {
-        outcome: outcome2,
-        sheet,
-    }
+    SheetRead { outcome, sheet }
 }

@@ -13,6 +13,7 @@ use Rattle.moves.specs.Moves.{Permitted, isPermitted}
 use Rattle.moves.proofs.Moves.{permitted-says}
 use Rattle.routes.specs.Crossing.{Crossing, steps, zone}
 use Rattle.routes.specs.Moves.{movesOf, system}
+use Rattle.routes.proofs.Moves.{moves-some}
 use Rattle.crossing.specs.Tables.{sheetCrossing, sheetGiven}
 use Rattle.crossing.specs.Sound.{Sound}
 use Rattle.crossing.proofs.Tables.{steps-is}
@@ -36,10 +37,6 @@ use Rattle.judge.proofs.Verdict.{out-at}
 use Rattle.asking.specs.Tables.{WantsZone, notGone, noMove}
 use Rattle.asking.specs.Asking.{askOf, hasMoved}
 use Rattle.asking.proofs.Ahead.{ahead-counted}
-
-moves-present : (k n : ℕ) → 0 < k → (k < n → movesOf k ≤ n) × (n ≤ k → n < movesOf k)
-moves-present zero n h = absurd (omega arith)
-moves-present (suc k) n h = (λ l. omega arith, λ l. omega arith)
 
 module _ (sheet : Sheet) (orders : Orders) (v : Valid sheet) (w : ValidOrders sheet orders) where
   abbrev X : Crossing
@@ -107,16 +104,16 @@ module _ (sheet : Sheet) (orders : Orders) (v : Valid sheet) (w : ValidOrders sh
           out-is : pos (S .out) cart ≡ movesOf k
           out-is = out-at sheet orders cart cart-few
 
-          around : (k < p → movesOf k ≤ p) × (p ≤ k → p < movesOf k)
-          around = moves-present k p (omega (arith, v .cart cart present .steps-least))
+          out-past : movesOf k ≡ k + 1
+          out-past = moves-some k (λ e. omega (arith, v .cart cart present .steps-least, e))
 
           pub already-is : k < p → noMove (refused 25 0) 0 ≡ askOf sheet orders lent cart
           unfolding firstFailing
-          already-is past = rw (out, is-reached, lt-ltb cart (sheet .carts) present, le-ltb p (pos (S .out) cart) (omega (arith, around .0 past, out-is)))
+          already-is past = rw (out, is-reached, lt-ltb cart (sheet .carts) present, le-ltb p (pos (S .out) cart) (omega (arith, out-past, out-is)))
 
           module _ (inside : p ≤ k) where
             not-out : isNotOut S (lent .position) cart ≡ true
-            not-out = lt-ltb p (pos (S .out) cart) (omega (arith, around .1 inside, out-is))
+            not-out = lt-ltb p (pos (S .out) cart) (omega (arith, out-past, out-is))
 
             pub place-few : p ≤ 8
             place-few = omega (arith, v .cart cart present .steps-most)

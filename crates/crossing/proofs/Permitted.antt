@@ -9,15 +9,11 @@ use Rattle.sets.specs.Member.{has, Within}
 use Rattle.moves.specs.System.{System, pos}
 use Rattle.moves.specs.Moves.{Permitted}
 use Rattle.routes.specs.Crossing.{Crossing, steps, zone}
-use Rattle.routes.specs.Moves.{movesOf, ByRule, system}
+use Rattle.routes.specs.Moves.{ByRule, system}
 use Rattle.routes.specs.Orders.{NamesOnce, OnlyVisitors}
-use Rattle.routes.proofs.Moves.{out-are, out-steps, permitted-by-rule}
+use Rattle.routes.proofs.Moves.{moves-within, out-are, out-steps, permitted-by-rule}
 use Rattle.crossing.specs.Tables.{crossingOf, LeftSet}
 use Rattle.crossing.proofs.Tables.{before-is}
-
-moves-within : (k p : ℕ) → p < movesOf k → (0 < k) × (p ≤ k)
-moves-within zero p h = absurd (omega arith)
-moves-within (suc k) p h = omega arith
 
 module _ (stepTable zoneTable aheadTable : List ℕ) (once : NamesOnce (crossingOf stepTable zoneTable aheadTable))
     (only : OnlyVisitors (crossingOf stepTable zoneTable aheadTable)) (s : List ℕ) (c : ℕ) (l : c < 16) where

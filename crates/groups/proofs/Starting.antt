@@ -12,11 +12,12 @@ use lib.Pow.{pow-lt}
 use lib.Dec.{leb, ltb, eqb}
 use borrow.Author.Tests.{lt-ltb, le-ltb, le-leb, lt-leb, eq-eqb, ne-eqb}
 use Rattle.words.proofs.Entries.{at-entry}
+use Rattle.words.proofs.Tests.{eqb-turned}
 use Rattle.words.proofs.Tables.{row-at, column-at}
 use Rattle.sets.specs.Member.{has, Without, Less}
 use Rattle.sets.specs.Counting.{setBelow}
 use Rattle.sets.proofs.Laws.{has-none, has-same}
-use Rattle.sets.proofs.Counting.{set-is}
+use Rattle.sets.proofs.Counting.{has-all, set-is}
 use Rattle.lists.specs.Sets.{Routes, whoVisits}
 use Rattle.moves.proofs.Positions.{zeros-pos}
 use Rattle.routes.specs.Crossing.{steps, zone}
@@ -28,10 +29,9 @@ use Rattle.orders_present.specs.Unplanned.{unplannedOf, unordered, Plannable}
 use Rattle.orders_present.specs.Holds.{StepHolds, Holds}
 use Rattle.orders_present.proofs.Ranks.{start-before}
 use Rattle.orders_present.proofs.Groups.{none-undecided}
-use Rattle.orders_present.proofs.Added.{eqb-turned}
 use Rattle.groups.specs.Pairs.{HasPairs}
 use Rattle.groups.specs.Starting.{visitingAt, laneMates, Lent, Starts}
-use Rattle.groups.proofs.Sets.{has-all, set-has}
+use Rattle.groups.proofs.Sets.{set-has}
 use Rattle.groups.proofs.Visitors.{visitors-says}
 
 -- ---- the carts with lower numbers

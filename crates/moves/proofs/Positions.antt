@@ -1,5 +1,5 @@
 -- Positions: what a move changes, states compared, and the sum of the positions.
-use Prim.Native.Nat.{ℕ, zero, suc, _≤_, _<_, zero-le, suc-le-suc}
+use Prim.Native.Nat.{ℕ, zero, suc, _*_, _≤_, _<_, zero-le, suc-le-suc}
 use mathlib.Core.Path.{_≡_, refl, sym, ap, _∙_}
 use mathlib.Core.Logic.{_≢_, _⊎_, inl, inr}
 use mathlib.Core.List.{List, [], _∷_}
@@ -89,6 +89,10 @@ pub ≼-sum : (s t : List ℕ) → length s ≡ length t → s ≼ t → sum s �
 ≼-sum [] (y ∷ ys) e h = zero-le
 ≼-sum (x ∷ xs) [] e h = omega arith
 ≼-sum (x ∷ xs) (y ∷ ys) e h = omega (arith, h 0, ≼-sum xs ys (omega arith) (λ c. h (suc c)))
+
+pub sum-most : (s : List ℕ) (most : ℕ) → ((c : ℕ) → pos s c ≤ most) → sum s ≤ most * length s
+sum-most [] most h = zero-le
+sum-most (x ∷ xs) most h = omega (arith, h 0, sum-most xs most (λ c. h (suc c)))
 
 -- ---- all zero
 

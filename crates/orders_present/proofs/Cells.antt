@@ -9,14 +9,13 @@ use lib.ListN.{length, getD, set}
 use lib.Seq.{getD-set-same, getD-set-other}
 use lib.Dec.{eqb}
 use Rattle.words.specs.Lists.{pick}
-use Rattle.words.proofs.Tests.{eqb-says, and-says}
+use Rattle.words.proofs.Tests.{eqb-says, and-says, eqb-turned}
 use Rattle.sets.specs.Member.{has, With, Without}
 use Rattle.routes.specs.Crossing.{route, steps, zone}
 use Rattle.routes.proofs.Places.{place-is}
 use Rattle.removal.specs.Pairs.{Unplanned}
 use Rattle.orders_present.specs.Unplanned.{unordered, Plannable}
 use Rattle.orders_present.specs.Deciding.{StepAt}
-use Rattle.orders_present.proofs.Added.{eqb-turned}
 
 -- x is the place of cart i's step in zone y
 module _ (U : Unplanned) (plannable : Plannable U) (y i x : ℕ) (here : StepAt U y i x) where

@@ -6,12 +6,12 @@ use native.Mathlib.Omega.{arith}
 use lib.ListN.{length}
 use Rattle.words.proofs.Entries.{length-entries}
 use Rattle.words.proofs.Tables.{used-at, unused-at}
+use Rattle.words.proofs.Filling.{table-used, table-unused}
 use Rattle.fields.proofs.BytesLaws.{holds-as}
 use Rattle.sets.specs.Counting.{setBelow}
 use Rattle.sheet.specs.Reading.{sheetDone, sheetOf, readSheet}
 use Rattle.sheet.specs.Valid.{steps, zone, Valid}
 use Rattle.sheet.specs.declared.Sheet.{Sheet}
-use Rattle.sheet.proofs.Tables.{table-used, table-unused}
 use Rattle.sheet.proofs.Accepted.{done-valid}
 use Rattle.plan.specs.Layout.{countAt, countOf, cartOf}
 use Rattle.routes.specs.Lists.{isAhead}

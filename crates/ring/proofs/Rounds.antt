@@ -5,13 +5,12 @@ use mathlib.Core.Logic.{_≢_}
 use mathlib.Core.List.{List, [], _∷_}
 use native.Mathlib.Omega.{arith}
 use native.Mathlib.Numerals.{add-one}
-use native.Mathlib.Decide.{decLe, decLt, ℕ-discrete}
 use lib.ListN.{length, getD}
 use lib.Dec.{eqb}
 use borrow.Author.Tests.{eq-eqb, ne-eqb}
 use Rattle.words.specs.Lists.{entries}
 use Rattle.moves.specs.Rings.{follow, leastFrom, between, ringFirst, ringRest}
-use Rattle.moves.proofs.Pointing.{Repeats, follow-add, follow-to, follow-repeats}
+use Rattle.moves.proofs.Pointing.{Repeats, follow-add, least-on}
 
 module _ (to : ℕ → ℕ) where
   -- the carts after the k-th, where `first` comes again j carts later
@@ -31,21 +30,10 @@ module _ (to : ℕ → ℕ) where
       let next : suc k ≡ k + 1 = omega arith in
       rw (ne-eqb _ _ other, between) (λ i. follow to (next i) first ∷ (rest ∙ ap (λ (y : ℕ). entries j (y + 1) (λ x. follow to x first)) next) i)
 
-  -- the lowest of the carts that follow comes again within n steps
-  least-on : (n c : ℕ) → (i : ℕ) × (follow to i c ≡ leastFrom to n c)
-  unfolding leastFrom
-  least-on zero c = (0, refl)
-  least-on (suc n) c = go (decLe c (leastFrom to n (to c))) (least-on n (to c))
-    where
-      go : Dec (c ≤ leastFrom to n (to c)) → (i : ℕ) × (follow to i (to c) ≡ leastFrom to n (to c))
-          → (i : ℕ) × (follow to i c ≡ leastFrom to (suc n) c)
-      go (yes h) q = (0, omega arith)
-      go (no h) q = (suc (q .0), sym (follow-to to (q .0) c) ∙ q .1 ∙ omega arith)
-
   pub ring-turn : (n c : ℕ) → Repeats to n c → (turn : ℕ) × (turn < n) × (follow to (suc turn) (ringFirst to n c) ≡ ringFirst to n c)
   unfolding ringFirst
   ring-turn n c r =
-      let (i, on) = least-on n (follow to n c) in
+      let (i, on) = least-on to n (follow to n c) in
       let t = suc (r .turn) in
       let e = follow to (r .enter) c in
       let j = i + (n - r .enter) in

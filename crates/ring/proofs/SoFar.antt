@@ -9,14 +9,14 @@ use native.Mathlib.Decide.{decLt, ℕ-discrete}
 use lib.ListN.{length, getD, set, replicate, List·getD-eq-default}
 use lib.Dec.{ltb}
 use borrow.Author.Tests.{lt-ltb, le-ltb}
-use Rattle.words.specs.Lists.{pick, entries}
+use Rattle.words.specs.Lists.{pick, entries, table}
 use Rattle.words.proofs.Entries.{length-entries, at-entry, same-entries}
+use Rattle.words.proofs.Filling.{table-none, table-next}
 use Rattle.moves.specs.Rings.{follow, leastFrom, ringFirst, ringRest}
 use Rattle.moves.proofs.Pointing.{Repeats, follow-repeats}
 use Rattle.ring.specs.Ring.{ringFrom, ringBy, sixteen}
 use Rattle.ring.specs.Tables.{ByTable, byTable}
 use Rattle.ring.specs.declared.Ring.{Ring}
-use Rattle.ring.proofs.Filling.{filledTo, filled-none, filled-next}
 use Rattle.ring.proofs.Rounds.{between-is, ring-turn}
 
 map-entries : (wanted rule : ℕ → ℕ) (n i : ℕ) → map wanted (entries n i rule) ≡ entries n i (λ x. wanted (rule x))
@@ -24,8 +24,7 @@ unfolding entries
 map-entries wanted rule zero i = refl
 map-entries wanted rule (suc n) i = ap (λ (l : List ℕ). wanted (rule i) ∷ l) (map-entries wanted rule n (i + 1))
 
-sixteen-filled : (rule : ℕ → ℕ) (n : ℕ) → sixteen (entries n 0 rule) ≡ filledTo rule n
-unfolding filledTo
+sixteen-filled : (rule : ℕ → ℕ) (n : ℕ) → sixteen (entries n 0 rule) ≡ table 16 n rule
 sixteen-filled rule n = same-entries 16 _ _ λ x _. go x (decLt x n)
   where
     go : (x : ℕ) → Dec (x < n) → getD (entries n 0 rule) x 0 ≡ pick (ltb x n) (rule x) 0
@@ -44,8 +43,8 @@ module _ (to wanted : List ℕ) where
     pub next : d ≡ follow (byTable to) n first
     pub next-cart : d < 16
     pub not-yet : (x : ℕ) → 0 < x → x < n → follow (byTable to) x first ≢ first
-    pub carts : cart ≡ filledTo (λ x. follow (byTable to) x first) n
-    pub zones : zone ≡ filledTo (λ x. byTable wanted (follow (byTable to) x first)) n
+    pub carts : cart ≡ table 16 n (λ x. follow (byTable to) x first)
+    pub zones : zone ≡ table 16 n (λ x. byTable wanted (follow (byTable to) x first))
 
   module _ (below : ByTable to) where
     pub so-far-start : (first : ℕ) → SoFar first (set (replicate 16 0) 0 first) (set (replicate 16 0) 0 (byTable wanted first)) 1 (byTable to first)
@@ -55,8 +54,8 @@ module _ (to wanted : List ℕ) where
       next = refl;
       next-cart = below first;
       not-yet = λ x a b. absurd (omega arith);
-      carts = filled-next _ 0 _ _ (omega arith) (filled-none _) refl;
-      zones = filled-next _ 0 _ _ (omega arith) (filled-none _) refl;
+      carts = table-next 16 (λ x. follow (byTable to) x first) 0 _ _ (omega arith) refl (table-none 16 _);
+      zones = table-next 16 (λ x. byTable wanted (follow (byTable to) x first)) 0 _ _ (omega arith) refl (table-none 16 _);
     }
 
     follow-below : (c : ℕ) → c < 16 → (n : ℕ) → follow (byTable to) n c < 16
@@ -84,8 +83,8 @@ module _ (to wanted : List ℕ) where
         next = rw (add-one n) (ap (byTable to) (on .next));
         next-cart = below d;
         not-yet = λ x a b. later x a b (ℕ-discrete x n);
-        carts = filled-next _ n _ _ (so-far-few other) (on .carts) (on .next);
-        zones = filled-next _ n _ _ (so-far-few other) (on .zones) (ap (byTable wanted) (on .next));
+        carts = table-next 16 _ n _ _ (so-far-few other) (on .next) (on .carts);
+        zones = table-next 16 _ n _ _ (so-far-few other) (ap (byTable wanted) (on .next)) (on .zones);
       }
         where
           later : (x : ℕ) → 0 < x → x < n + 1 → Dec (x ≡ n) → follow (byTable to) x first ≢ first

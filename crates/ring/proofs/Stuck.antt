@@ -7,16 +7,15 @@ use mathlib.Core.List.{List}
 use native.Mathlib.Omega.{arith}
 use native.Mathlib.Decide.{ℕ-discrete}
 use lib.ListN.{getD}
+use lib.Dec.{leb}
+use borrow.Author.Tests.{leb-true, le-leb}
 use Rattle.routes.specs.Moves.{movesOf}
+use Rattle.routes.proofs.Moves.{moves-some}
 use Rattle.ring.specs.Tables.{NotOutIn, StuckIn}
 
-pub moves-none : (k p : ℕ) → k ≡ 0 → ¬ (p < movesOf k)
-moves-none zero p e h = omega arith
-moves-none (suc k) p e h = absurd (omega arith)
-
-pub moves-some : (k p : ℕ) → (k ≡ 0 → ⊥) → (p ≤ k) ↔ (p < movesOf k)
-moves-some zero p n = absurd (n (omega arith))
-moves-some (suc k) p n = (λ h. omega arith, λ h. omega arith)
+-- a cart with steps is not out while it is not past the last
+pub steps-left : (k p : ℕ) → (k ≡ 0 → ⊥) → (leb p k ≡ true) ↔ (p < movesOf k)
+steps-left k p n = (λ e. omega (arith, moves-some k n, leb-true p k e), λ h. le-leb p k (omega (arith, moves-some k n)))
 
 module _ (steps at : List ℕ) where
   abbrev pub Passed : ℕ → Type 0

@@ -1,5 +1,5 @@
 -- The system of a crossing permits a move exactly where document 01's rule does, and no move of it waits for what cannot be.
-use Prim.Native.Nat.{ℕ, zero, suc, _≤_, _<_}
+use Prim.Native.Nat.{ℕ, zero, suc, _+_, _≤_, _<_}
 use mathlib.Core.Path.{_≡_, refl, _∙_}
 use mathlib.Core.Logic.{_↔_, Iff·rfl, _⊎_, inl, inr, ⊎-elim}
 use mathlib.Core.Bool.{Bool, true, false}
@@ -21,9 +21,22 @@ use Rattle.routes.proofs.Places.{place-below, place-names, place-first}
 
 -- ---- how many moves a cart makes
 
-moves-all : (k j : ℕ) → j < k → movesOf k ≡ suc k
-moves-all zero j h = absurd (omega arith)
-moves-all (suc k) j h = refl
+pub moves-none : (k : ℕ) → k ≡ 0 → movesOf k ≡ 0
+moves-none zero e = refl
+moves-none (suc k) e = absurd (omega arith)
+
+pub moves-some : (k : ℕ) → (k ≡ 0 → ⊥) → movesOf k ≡ k + 1
+moves-some zero n = absurd (n refl)
+moves-some (suc k) n = omega arith
+
+pub moves-most : (k : ℕ) → movesOf k ≤ k + 1
+moves-most zero = omega arith
+moves-most (suc k) = omega arith
+
+-- a cart that is not out has a step, and is not past the last
+pub moves-within : (k p : ℕ) → p < movesOf k → (0 < k) × (p ≤ k)
+moves-within zero p h = absurd (omega arith)
+moves-within (suc k) p h = omega arith
 
 module _ (X : Crossing) where
   pub carts-are : carts (system X) ≡ length (X .routes)
@@ -34,7 +47,7 @@ module _ (X : Crossing) where
 
   -- a cart with a step makes one more move than it has steps
   pub out-steps : (c j : ℕ) → j < steps X c → pos (system X .out) c ≡ suc (steps X c)
-  out-steps c j h = out-are c ∙ moves-all (steps X c) j h
+  out-steps c j h = omega (arith, out-are c, moves-some (steps X c) (λ e. omega (arith, h, e)))
 
   pub step-cart : (c j : ℕ) → j < steps X c → c < carts (system X)
   step-cart c j h = pos-inside (system X .out) c j (omega (arith, out-steps c j h))

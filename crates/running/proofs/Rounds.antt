@@ -9,23 +9,16 @@ use lib.Seq.{take-suc-set}
 use Rattle.moves.specs.System.{System, pos, start, InRange, sum}
 use Rattle.moves.specs.Moves.{moved, Permitted}
 use Rattle.moves.specs.Runs.{after}
+use Rattle.moves.proofs.Positions.{sum-most}
 use Rattle.moves.proofs.Runs.{after-append, moved-in-range, run-append, permitted-sum}
 use Rattle.routes.specs.Crossing.{Crossing, steps}
-use Rattle.routes.specs.Moves.{movesOf, system}
-use Rattle.routes.proofs.Moves.{carts-are, out-are}
+use Rattle.routes.specs.Moves.{system}
+use Rattle.routes.proofs.Moves.{moves-most, carts-are, out-are}
 use Rattle.times.specs.Times.{Given}
 use Rattle.crossing.specs.Sound.{Sound}
 use Rattle.one_move.specs.Running.{Running}
 use Rattle.running.specs.Rounds.{Underway}
 use Rattle.one_move.proofs.Moving.{in-range}
-
-sum-most : (list : List ℕ) (most : ℕ) → ((c : ℕ) → pos list c ≤ most) → sum list ≤ most * length list
-sum-most [] most h = zero-le
-sum-most (x ∷ list) most h = omega (arith, h 0, sum-most list most (λ c. h (suc c)))
-
-moves-most : (k : ℕ) → movesOf k ≤ suc k
-moves-most zero = zero-le
-moves-most (suc k) = omega arith
 
 module _ (X : Crossing) (G : Given) where
   abbrev S : System

@@ -2,7 +2,7 @@
 use Prim.Native.Nat.{ℕ, zero, suc, suc-le-suc, _+_, _-_, _*_, _/_, _%_, _^_, _≤_, _<_}
 use mathlib.Core.Path.{_≡_, refl, sym, ap, ap₂, _∙_, subst}
 use mathlib.Core.Logic.{_↔_}
-use mathlib.Core.Bool.{Bool, true, false, not, _&&_, _||_, false≢true, and-self, and-true, or-false, or-true}
+use mathlib.Core.Bool.{Bool, true, false, not, _&&_, _||_, false≢true, and-self, and-true, and-false, or-false, or-true}
 use native.Mathlib.Nat.{div-one, mod-lt, zero-lt-suc, two-pow-succ, pow-suc, div-add-mod', div-eq-of-lt, mod-eq-of-lt, le-antisymm, le-of-suc-le-suc, lt-of-lt-of-le, lt-of-not-le, one-mul, add-left-comm, mul-mod-left, mul-div-cancel}
 use native.Mathlib.Numerals.{one-add, add-one}
 use native.Mathlib.Omega.{arith}
@@ -11,7 +11,7 @@ use lib.Arith.{lt-one}
 use lib.Pow.{pow-lt, pow-mono, shr-lt, shr-shr}
 use lib.Bits.{bitAnd, bitOr, bitXor, and-shr, and-mod, or-shr, or-mod, xor-shr, xor-mod, and-le-r}
 use lib.Count.{ones, ones-step, trailingZeros, under}
-use borrow.Author.Tests.{eqb-true, eq-eqb}
+use borrow.Author.Tests.{eqb-true, eq-eqb, ne-eqb}
 use Rattle.sets.specs.Member.{has, With, Without, Less, Within, Lowest, Rest}
 use Rattle.sets.specs.Counting.{bit, countBelow}
 
@@ -99,10 +99,10 @@ module _
       ∙ ap (λ (n : ℕ). eqb n 1) (op-mod (x / 2 ^ i) (y / 2 ^ i) 1 ∙ ap₂ op (digit-has x i) (digit-has y i))
       ∙ op-bit (has x i) (has y i)
 
-has-and : (x y i : ℕ) → has (bitAnd x y) i ≡ (has x i && has y i)
+pub has-and : (x y i : ℕ) → has (bitAnd x y) i ≡ (has x i && has y i)
 has-and = has-op bitAnd (λ b c. b && c) and-shr and-mod refl refl refl refl
 
-has-or : (x y i : ℕ) → has (bitOr x y) i ≡ (has x i || has y i)
+pub has-or : (x y i : ℕ) → has (bitOr x y) i ≡ (has x i || has y i)
 has-or = has-op bitOr (λ b c. b || c) or-shr or-mod refl refl refl refl
 
 -- `x ^ (x & y)`
@@ -140,6 +140,14 @@ has-with k x i l j = has-or x ((1 * 2 ^ i) % 2 ^ k) j ∙ ap (λ (b : Bool). has
 
 pub has-without : (k x i : ℕ) → i < k → Without x i (bitXor x (bitAnd x ((1 * 2 ^ i) % 2 ^ k)))
 has-without k x i l j = has-less x ((1 * 2 ^ i) % 2 ^ k) j ∙ ap (λ (b : Bool). has x j && not b) (has-shl k i j l)
+
+-- what is taken out is no member, and every other is as before
+module _ (x i less : ℕ) (without : Without x i less) where
+  pub without-gone : has less i ≡ false
+  without-gone = without i ∙ ap (λ (b : Bool). has x i && not b) (eq-eqb i i refl) ∙ and-false (has x i)
+
+  pub without-other : (j : ℕ) → ¬ (j ≡ i) → has less j ≡ has x j
+  without-other j n = without j ∙ ap (λ (b : Bool). has x j && not b) (ne-eqb j i n) ∙ and-true (has x j)
 
 -- a member that is taken out and put in again
 pub with-without : (x i r : ℕ) → has x i ≡ true → Without x i r → With r i x

@@ -17,7 +17,7 @@ use Rattle.moves.proofs.Runs.{after-length, after-up, after-append}
 use Rattle.moves.proofs.Values.{put-same, put-other}
 use Rattle.routes.specs.Crossing.{Crossing, steps}
 use Rattle.routes.specs.Moves.{movesOf, system}
-use Rattle.routes.proofs.Moves.{out-are}
+use Rattle.routes.proofs.Moves.{moves-most, out-are}
 use Rattle.times.specs.Times.{Given, finish}
 use Rattle.one_move.proofs.Stored.{most-stored}
 use Rattle.entering.specs.Times.{timesOf, AtMost}
@@ -38,10 +38,6 @@ moved-back s c l =
 
 after-next : (s order : List ℕ) (i : ℕ) → i < length order → after s (take (suc i) order) ≡ moved (after s (take i order)) (getD order i 0)
 after-next s order i l = ap (after s) (take-suc order i 0 l) ∙ after-append s (take i order) (getD order i 0 ∷ [])
-
-moves-most : (k : ℕ) → k ≤ 8 → movesOf k ≤ 9
-moves-most zero h = omega arith
-moves-most (suc k) h = omega arith
 
 -- ---- the spare times so far
 
@@ -145,7 +141,7 @@ module _ (stepTable zoneTable passing behind visit enter order : List ℕ) (made
     pub turn-few : step ≤ 8
     turn-few =
         let past : pos (after lanes (take k order)) cart ≤ pos (system X .out) cart = rw rest-out at (after-up (after lanes (take k order)) (drop k run) cart) in
-        omega (arith, step-is, turn-some, ap (λ (l : List ℕ). pos l cart) (to .at-is), out-are X cart, ap movesOf counted, moves-most (getD stepTable cart 0) (ready .tables .routed .routes .few cart))
+        omega (arith, step-is, turn-some, ap (λ (l : List ℕ). pos l cart) (to .at-is), out-are X cart, ap movesOf counted, moves-most (getD stepTable cart 0), ready .tables .routed .routes .few cart)
       where
         rest-out : after (after lanes (take k order)) (drop k run) ≡ system X .out
         rest-out =

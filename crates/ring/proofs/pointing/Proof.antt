@@ -3,20 +3,22 @@ use Prim.Native.Nat.{_-_, _≤_}
 use mathlib.Core.Path.{_≡_, _∙_}
 use native.Mathlib.Omega.{arith}
 use lib.ListN.{getD}
+use Rattle.words.specs.Lists.{table}
+use Rattle.words.proofs.Filling.{table-none, table-next}
 use Rattle.ring.specs.Tables.{firstNotLeft, ByTable}
-use Rattle.ring.proofs.Filling.{filledTo, filled-none, filled-next, filled-all, Below, below-next, filled-below}
+use Rattle.ring.proofs.Below.{Below, below-next, filled-below}
 use borrow.Author.Needs.{needs}
 use Rattle.ring.proofs.pointing.Statement.{statement}
 use Rattle.ring.proofs.pointing.Tie as tie
 
 abbrev Inv-loop : tie.InvT-loop
-Inv-loop count list left wanted to₀ c₀ to c = (c ≤ 16) × (to ≡ filledTo (λ d. firstNotLeft count list left (getD wanted d 0)) c) × Below (λ d. firstNotLeft count list left (getD wanted d 0)) 16 c
+Inv-loop count list left wanted to₀ c₀ to c = (c ≤ 16) × (to ≡ table 16 c (λ d. firstNotLeft count list left (getD wanted d 0))) × Below (λ d. firstNotLeft count list left (getD wanted d 0)) 16 c
 
 abbrev μ-loop : tie.MeasureT-loop
 μ-loop count list left wanted to₀ c₀ to c = 16 - c
 
 loop-holds : tie.Need-loop-holds Inv-loop μ-loop
-loop-holds c = (omega arith, filled-none _, λ x h. absurd (omega arith))
+loop-holds c = (omega arith, table-none 16 _, λ x h. absurd (omega arith))
 
 element-copy-out-first-not-left : tie.Need-element-copy-out-first-not-left Inv-loop μ-loop
 element-copy-out-first-not-left c = search needs
@@ -40,7 +42,7 @@ loop-less : tie.Need-loop-less Inv-loop μ-loop
 loop-less c = search needs
 
 loop-again : tie.Need-loop-again Inv-loop μ-loop
-loop-again c = (omega (arith, c .before .before .loop-test .taken), filled-next _ _ _ _ (c .before .before .loop-test .taken) (c .before .before .before .loop .inv .1) (c .first-not-left .ensures .0), below-next _ 16 _ (c .before .before .before .loop .inv .2) (rw (c .first-not-left .ensures .0) at (c .first-not-left .ensures .1)))
+loop-again c = (omega (arith, c .before .before .loop-test .taken), table-next 16 _ _ _ _ (c .before .before .loop-test .taken) (c .first-not-left .ensures .0) (c .before .before .before .loop .inv .1), below-next _ 16 _ (c .before .before .before .loop .inv .2) (rw (c .first-not-left .ensures .0) at (c .first-not-left .ensures .1)))
 
 returns : tie.Need-returns Inv-loop μ-loop
 returns c = filled-below _ 16 _ _ (omega (arith, c .before .loop .inv .0, c .loop-test .left)) (omega arith) (c .before .loop .inv .1) (c .before .loop .inv .2)

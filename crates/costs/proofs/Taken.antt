@@ -4,9 +4,9 @@ use mathlib.Core.Bool.{true, false}
 use lib.Signed.{ltZ}
 use Rattle.removal.specs.Pairs.{Unplanned, Order, rank}
 use Rattle.removal.specs.Cost.{Costed, isTakenOver}
+use Rattle.removal.proofs.Ranks.{rank-injective}
 use Rattle.costs.specs.Largest.{OfCarts}
 use Rattle.costs.proofs.Strict.{Strict, clash, not-true-false, level-tied, levelled, by-value, turned, ltb-strict, ltZ-strict, ltb-tied}
-use Rattle.costs.proofs.Ranks.{rank-injective}
 
 pub same-order : (o p : Order) → o .zone ≡ p .zone → o .first ≡ p .first → o .second ≡ p .second → o ≡ p
 same-order o p zone first second = λ i. record { zone = zone i; first = first i; second = second i }

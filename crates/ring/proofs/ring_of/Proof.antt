@@ -3,7 +3,6 @@ use mathlib.Core.Path.{refl, _∙_}
 use native.Mathlib.Omega.{arith}
 use Rattle.ring.proofs.Below.{below-all}
 use Rattle.ring.proofs.Same.{ring-tables}
-use borrow.Author.Needs.{needs}
 use Rattle.ring.proofs.ring_of.Statement.{statement}
 use Rattle.ring.proofs.ring_of.Tie as tie
 

@@ -41,6 +41,7 @@ use Rattle.sheet.proofs.Accepted.{accepted-valid}
 use Rattle.plan.specs.Reading.{readPlan}
 use Rattle.plan.specs.Valid.{planLength}
 use Rattle.plan.specs.Written.{written}
+use Rattle.plan.proofs.Readable.{said-sheet, said-valid}
 use Rattle.plan.proofs.RoundTrip.{written-readable}
 use Rattle.plan_writer.specs.Writing.{writeAgain, roomAfter}
 use Rattle.plan_writer.specs.declared.PlanWritten.{PlanWritten}
@@ -60,14 +61,13 @@ use Rattle.planner.specs.declared.Planned.{Planned}
 use Rattle.planner.proofs.NotLocked.{planned-read, planned-length, planned-finish, planned-judged}
 use Rattle.demands.specs.DemandTwo as two
 use Rattle.demands.specs.DemandTwo.{Readable, given, Verdict, TimesTold, JudgedRightly, PlannedRightly, ReadBack, SameBytes}
-use Rattle.demands.proofs.DemandThree.{read-valid}
 
 module _ (s p : List ℕ) where
   abbrev X : Crossing
   X = two.planned s p
 
   full : Readable s p → Complete (routesOf (sheetOf s)) (listsOf (sheetOf s) (ordersRead s p))
-  full readable = let (v, w) = read-valid s p readable in plan-complete (sheetOf s) v (ordersRead s p) w
+  full readable = plan-complete (sheetOf s) (said-sheet s p readable) (ordersRead s p) (said-valid s p readable)
 
   -- the verdict is the published graph's
   locked-cyclic : Readable s p → isOut (sheetOf s) (ordersRead s p) ≡ false → Cyclic X
@@ -115,8 +115,7 @@ module _ (s p : List ℕ) where
     ranged : Ranged X G
     unfolding crossingOf
     ranged =
-        let (v, w) = read-valid s p readable in
-        let same = plan-sound (sheetOf s) v (ordersRead s p) w .ranged in
+        let same = plan-sound (sheetOf s) (said-sheet s p readable) (ordersRead s p) (said-valid s p readable) .ranged in
         record {
           carts-most = same .carts-most;
           steps-most = same .steps-most;
@@ -128,7 +127,7 @@ module _ (s p : List ℕ) where
         }
 
     is-judged : EnteringTimes X G judgedTime
-    is-judged = let (v, w) = read-valid s p readable in judged-times (sheetOf s) (ordersRead s p) v w accepted
+    is-judged = judged-times (sheetOf s) (ordersRead s p) (said-sheet s p readable) (said-valid s p readable) accepted
 
     word-is : (c j : ℕ) → j < steps X c → timesOf after c j ≡ judgedTime c j
     unfolding timeWords crossingOf

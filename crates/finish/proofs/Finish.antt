@@ -1,23 +1,20 @@
 -- The largest of the last leaving times is times' finish.
 use Prim.Native.Nat.{ℕ, zero, suc, _+_, _*_, _-_, _≤_, _<_}
-use mathlib.Core.Path.{_≡_, refl, sym, ap, _∙_}
+use mathlib.Core.Path.{_≡_, sym, ap, _∙_}
 use mathlib.Core.List.{List}
 use native.Mathlib.Omega.{arith}
-use native.Mathlib.Nat.{le-trans, le-refl}
-use native.Mathlib.Decide.{decLt, ℕ-discrete}
-use lib.ListN.{length, getD}
-use lib.Dec.{ltb, eqb}
+use native.Mathlib.Decide.{decLt}
+use lib.ListN.{getD}
 use borrow.Author.Tests.{lt-ltb, le-ltb, eq-eqb, ne-eqb}
-use Rattle.words.specs.Lists.{pick}
 use Rattle.routes.specs.Crossing.{Crossing, steps}
-use Rattle.times.specs.Times.{largest, Given, leaving, ready, finish, KeepsRules}
+use Rattle.times.specs.Times.{largest, Given, leaving, finish, KeepsRules}
 use Rattle.times.proofs.Largest.{largest-most, largest-least}
 use Rattle.times.proofs.Rules.{leaving-passed}
 use Rattle.times.proofs.Finish.{leaving-finish, finish-most}
 use Rattle.entering.specs.Times.{timesOf}
 use Rattle.crossing.specs.Tables.{crossingOf, givenOf}
 use Rattle.crossing.proofs.Tables.{steps-is, step-below}
-use Rattle.finish.specs.Finish.{lastAt, lastLeaving}
+use Rattle.finish.specs.Finish.{lastLeaving}
 
 module _ (X : Crossing) (G : Given) (t : ℕ → ℕ → ℕ) (keeps : KeepsRules X G t) (c : ℕ) where
   last-is : (s : ℕ) → suc s ≡ steps X c → leaving X G t c s ≡ t c s + G .passing c s

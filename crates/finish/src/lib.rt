@@ -1,5 +1,5 @@
 ghost use mathlib.Core.Path.{_≡_};
-ghost use Prim.Native.Nat.{_≤_, _<_, max};
+ghost use Prim.Native.Nat.{_<_, max};
 ghost use Rattle.times.specs.Times.{largest};
 ghost use Rattle.finish.specs.Finish.{Leavable, lastLeaving};
 

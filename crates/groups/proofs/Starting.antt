@@ -12,11 +12,12 @@ use lib.Pow.{pow-lt}
 use lib.Dec.{leb, ltb, eqb}
 use borrow.Author.Tests.{lt-ltb, le-ltb, le-leb, lt-leb, eq-eqb, ne-eqb}
 use Rattle.words.proofs.Entries.{at-entry}
+use Rattle.words.proofs.Tests.{eqb-turned}
 use Rattle.words.proofs.Tables.{row-at, column-at}
 use Rattle.sets.specs.Member.{has, Without, Less}
 use Rattle.sets.specs.Counting.{setBelow}
 use Rattle.sets.proofs.Laws.{has-none, has-same}
-use Rattle.sets.proofs.Counting.{set-is}
+use Rattle.sets.proofs.Counting.{has-all, set-is}
 use Rattle.lists.specs.Sets.{Routes, whoVisits}
 use Rattle.moves.proofs.Positions.{zeros-pos}
 use Rattle.routes.specs.Crossing.{steps, zone}
@@ -24,14 +25,13 @@ use Rattle.routes.proofs.Places.{named-says}
 use Rattle.crossing.specs.Tables.{crossingOf, givenOf}
 use Rattle.crossing.proofs.Tables.{steps-is, zone-is}
 use Rattle.removal.specs.Pairs.{Unplanned, visits, sameLane, isPair}
-use Rattle.orders_present.specs.Unplanned.{unplannedOf, unordered, Plannable}
+use Rattle.orders_present.specs.Unplanned.{unplannedOf, unordered, SheetSized}
 use Rattle.orders_present.specs.Holds.{StepHolds, Holds}
 use Rattle.orders_present.proofs.Ranks.{start-before}
 use Rattle.orders_present.proofs.Groups.{none-undecided}
-use Rattle.orders_present.proofs.Added.{eqb-turned}
 use Rattle.groups.specs.Pairs.{HasPairs}
 use Rattle.groups.specs.Starting.{visitingAt, laneMates, Lent, Starts}
-use Rattle.groups.proofs.Sets.{has-all, set-has}
+use Rattle.groups.proofs.Sets.{set-has}
 use Rattle.groups.proofs.Visitors.{visitors-says}
 
 -- ---- the carts with lower numbers
@@ -183,7 +183,7 @@ module _ (stepTable zoneTable visitors lane ahead behind pairs mates : List ℕ)
     (visitors-are : visitors ≡ whoVisits stepTable zoneTable) (mates-are : mates ≡ laneMates lane)
     (done : StartedTo stepTable zoneTable visitors mates 128 ahead behind pairs) where
   module _ (arrival passing travel follow cross : List ℕ) (zones carts : ℕ)
-      (plannable : Plannable (unplannedOf stepTable zoneTable lane arrival passing travel follow cross zones carts)) where
+      (sized : SheetSized (unplannedOf stepTable zoneTable lane arrival passing travel follow cross zones carts)) where
     abbrev U : Unplanned
     U = unplannedOf stepTable zoneTable lane arrival passing travel follow cross zones carts
 
@@ -199,18 +199,18 @@ module _ (stepTable zoneTable visitors lane ahead behind pairs mates : List ℕ)
       z = zone (unordered U) c j
 
       cart : c < 16
-      cart = omega (arith, plannable .step-cart c j h, plannable .carts-most)
+      cart = omega (arith, sized .able .cart-below c _ (j, h, refl), sized .carts-most)
 
       here : Parted (who (8 * c + j)) (getD mates c 0) c (getD ahead (8 * c + j) 0) (getD behind (8 * c + j) 0) (getD pairs (8 * c + j) 0)
       here =
-          let few : j < 8 = omega (arith, plannable .ranged .steps-most c) in
+          let few : j < 8 = omega (arith, sized .ranged .steps-most c) in
           subst (λ (i : ℕ). Parted (who (8 * c + j)) (getD mates i 0) i (getD ahead (8 * c + j) 0) (getD behind (8 * c + j) 0) (getD pairs (8 * c + j) 0)) (row-at c j few)
           (done .passed (8 * c + j) (omega (arith, cart)))
 
       who-says : (d : ℕ) → has (who (8 * c + j)) d ≡ visits U d z
       unfolding crossingOf
       who-says d =
-          let few : j < 8 = omega (arith, plannable .ranged .steps-most c) in
+          let few : j < 8 = omega (arith, sized .ranged .steps-most c) in
           let below : j < getD stepTable c 0 = omega (arith, h, steps-is stepTable zoneTable [] c cart) in
           let there = zone-is stepTable zoneTable [] c cart j h in
           let known = sheet-routes .known c j below in
@@ -222,7 +222,7 @@ module _ (stepTable zoneTable visitors lane ahead behind pairs mates : List ℕ)
       mate-says : (d : ℕ) → visits U d z ≡ true → has (getD mates c 0) d ≡ sameLane U d c
       mate-says d e =
           let (k, m, _) = named-says (getD (U .routes) d []) z .0 e in
-          lane-says c d cart (omega (arith, plannable .step-cart d k m, plannable .carts-most))
+          lane-says c d cart (omega (arith, sized .able .cart-below d _ (k, m, refl), sized .carts-most))
 
       step-starts : StepHolds U 0 0 [] z c (getD ahead (8 * c + j) 0) (getD behind (8 * c + j) 0) 0
       step-starts = record {
@@ -263,7 +263,7 @@ module _ (stepTable zoneTable visitors lane ahead behind pairs mates : List ℕ)
 
     tables-start : (undecided : List ℕ) → length undecided ≡ 128 → ((k : ℕ) → getD undecided k 0 ≡ 0) → Holds U 0 0 [] ahead behind undecided
     tables-start undecided long none = record {
-      plannable = plannable;
+      sheet-sized = sized;
       ahead-128 = done .ahead-128;
       behind-128 = done .behind-128;
       undecided-128 = long;
@@ -276,8 +276,8 @@ module _ (stepTable zoneTable visitors lane ahead behind pairs mates : List ℕ)
 
   pub starts : Starts stepTable zoneTable lane ahead behind pairs
   starts = record {
-    holds = λ arrival passing travel follow cross zones carts plannable. (
-      tables-start arrival passing travel follow cross zones carts plannable (replicate 128 0) (length-replicate {A = ℕ} 128 0) (zeros-pos 128),
-      pairs-start arrival passing travel follow cross zones carts plannable,
+    holds = λ arrival passing travel follow cross zones carts sized. (
+      tables-start arrival passing travel follow cross zones carts sized (replicate 128 0) (length-replicate {A = ℕ} 128 0) (zeros-pos 128),
+      pairs-start arrival passing travel follow cross zones carts sized,
     );
   }

@@ -7,7 +7,7 @@ use lib.Dec.{ltb, eqb}
 use Rattle.words.specs.Lists.{pick, entries}
 use Rattle.sets.specs.Counting.{setBelow}
 use Rattle.lists.specs.Sets.{Routes, whoVisits}
-use Rattle.orders_present.specs.Unplanned.{unplannedOf, Plannable}
+use Rattle.orders_present.specs.Unplanned.{unplannedOf, SheetSized}
 use Rattle.orders_present.specs.Holds.{Holds}
 use Rattle.groups.specs.Pairs.{HasPairs}
 
@@ -31,6 +31,6 @@ module _ (steps zone lane ahead behind pairs : List ℕ) where
   -- the tables hold the start, whatever the sheet's times are
   pub record Starts : Type 0 where
     pub holds : (arrival passing travel follow cross : List ℕ) (zones carts : ℕ)
-        → Plannable (unplannedOf steps zone lane arrival passing travel follow cross zones carts)
+        → SheetSized (unplannedOf steps zone lane arrival passing travel follow cross zones carts)
         → Holds (unplannedOf steps zone lane arrival passing travel follow cross zones carts) 0 0 [] ahead behind (replicate 128 0)
         × HasPairs (unplannedOf steps zone lane arrival passing travel follow cross zones carts) pairs

@@ -21,7 +21,7 @@ use Rattle.lists.specs.Sets.{Routes, whoVisits}
 use Rattle.crossing.specs.Tables.{crossingOf}
 use Rattle.crossing.proofs.Tables.{steps-is, zone-is}
 use Rattle.removal.specs.Pairs.{Unplanned, Order, visits}
-use Rattle.removal.specs.Plannable as removing
+use Rattle.removal.specs.Plannable.{Plannable}
 use Rattle.removal.specs.Present.{present}
 use Rattle.removal.specs.Removal.{passingCart, visitors, passingLists}
 use Rattle.removal.proofs.Pairs.{Visiting, visits-says}
@@ -29,7 +29,6 @@ use Rattle.removal.proofs.Present.{present-both}
 use Rattle.removal.proofs.Lists.{placeIn, list-counts, list-place, place-listed, lists-complete}
 use Rattle.orders_present.specs.Unplanned.{unplannedOf, unordered}
 use Rattle.orders_present.specs.Holds.{Holds}
-use Rattle.orders_present.proofs.Sheets.{plannable-able}
 use Rattle.groups.proofs.Visitors.{visitors-says}
 use Rattle.passing_lists.specs.declared.PassingLists.{PassingLists}
 use Rattle.passing_lists.specs.Places.{IsStep, zoneAt, placeAt, Placeable, EntryOf, PlacedTo, Listed}
@@ -44,8 +43,8 @@ module _ (stepTable zoneTable lane arrival passing travel follow cross : List �
   X = present U carts carts decided
 
   module _ (holds : Holds U carts carts decided ahead behind undecided) (strict : (z : ℕ) → StrictOrder (λ c. Visits X c z) (X .before z)) where
-    able : removing.Plannable U
-    able = plannable-able U (holds .plannable)
+    able : Plannable U
+    able = holds .sheet-sized .able
 
     abbrev place : ℕ → ℕ → ℕ
     place = placeIn U X
@@ -83,7 +82,7 @@ module _ (stepTable zoneTable lane arrival passing travel follow cross : List �
     step-table : (c j : ℕ) → j < steps (unordered U) c → IsStep stepTable c j × (zone (unordered U) c j ≡ zoneAt zoneTable c j)
     unfolding crossingOf
     step-table c j h =
-        let l : c < 16 = omega (arith, able .cart-below c (zone (unordered U) c j) (j, h, refl), holds .plannable .carts-most) in
+        let l : c < 16 = omega (arith, able .cart-below c (zone (unordered U) c j) (j, h, refl), holds .sheet-sized .carts-most) in
         ((l, omega (arith, h, steps-is stepTable zoneTable [] c l)), zone-is stepTable zoneTable [] c l j h)
 
     -- the carts counted in a step's set are those that go before
@@ -95,7 +94,7 @@ module _ (stepTable zoneTable lane arrival passing travel follow cross : List �
     place-small : (c j : ℕ) → j < steps (unordered U) c → placeAt ahead c j < 16
     place-small c j h =
         let z = zone (unordered U) c j in
-        omega (arith, place-is c j h, place-few c z (j, h, refl), count-most carts (λ d. visits U d z), holds .plannable .carts-most)
+        omega (arith, place-is c j h, place-few c z (j, h, refl), count-most carts (λ d. visits U d z), holds .sheet-sized .carts-most)
 
     -- an entry is that of a visitor at its place
     entry-is : (c j z k : ℕ) → k < 16 → EntryOf stepTable zoneTable ahead c j (16 * z + k) → Visiting U c z × (place z c ≡ k)
@@ -143,7 +142,7 @@ module _ (stepTable zoneTable lane arrival passing travel follow cross : List �
       one-placed : (c z k : ℕ) → Visiting U c z → place z c ≡ k → getD list (16 * z + k) 0 ≡ c
       one-placed c z k v at =
           let (j, e) = visitor-entry c z v in
-          let below : 8 * c + j < 128 = omega (arith, e .is-step .0, table-step c j (e .is-step) .0, holds .plannable .ranged .steps-most c) in
+          let below : 8 * c + j < 128 = omega (arith, e .is-step .0, table-step c j (e .is-step) .0, holds .sheet-sized .ranged .steps-most c) in
           placed .placed c j (16 * z + k) (rw at at e) below
 
       entry-listed : (z k : ℕ) → k < 16 → getD list (16 * z + k) 0 ≡ getD (listOf lists z) k 0

@@ -69,10 +69,20 @@ fn show_reading(s: &[u8], p: &[u8]) -> usize {
     sheet.zones
 }
 
-fn put_carts(list: &[u8]) {
+// A byte after a space: in hexadecimal, or as a cart's number.
+fn put_byte(byte: u8, in_hex: bool) {
+    if in_hex {
+        say(b" ");
+        io::print_hex(STDOUT_FILENO, byte as u64, 2);
+    } else {
+        put_cart(byte);
+    }
+}
+
+fn put_bytes(bytes: &[u8], in_hex: bool) {
     let mut i = 0;
-    while i < list.len() {
-        put_cart(list[i]);
+    while i < bytes.len() {
+        put_byte(bytes[i], in_hex);
         i += 1;
     }
 }
@@ -89,7 +99,7 @@ fn show_list(s: &[u8], p: &[u8], zone: usize) {
         put(b" length ", list.len() as u64);
     } else {
         say(b" list");
-        put_carts(list);
+        put_bytes(list, false);
     }
     end_line();
 }
@@ -102,19 +112,6 @@ fn show_lists(s: &[u8], p: &[u8], zones: usize) {
         zone += 1;
     }
     show_list(s, p, zones);
-}
-
-fn put_byte(byte: u8) {
-    say(b" ");
-    io::print_hex(STDOUT_FILENO, byte as u64, 2);
-}
-
-fn put_bytes(bytes: &[u8]) {
-    let mut i = 0;
-    while i < bytes.len() {
-        put_byte(bytes[i]);
-        i += 1;
-    }
 }
 
 // The plan written again into a room, and what the room then holds.
@@ -130,7 +127,7 @@ fn show_room(s: &[u8], p: &[u8], room: &mut [u8]) {
         put(b"written ", written.length as u64);
     }
     say(b" holds");
-    put_bytes(room);
+    put_bytes(room, true);
     end_line();
 }
 

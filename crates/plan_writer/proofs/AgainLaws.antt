@@ -8,28 +8,35 @@ use lib.Dec.{leb}
 use lib.ListN.{length, drop}
 use lib.Seq.{sets, sets-eq}
 use borrow.Author.Tests.{le-leb, lt-leb}
-use Rattle.words.specs.Checks.{Check, check, refused, firstFailing}
-use Rattle.words.specs.declared.Outcome.{Outcome}
+use Rattle.words.specs.Checks.{refused, firstFailing}
 use Rattle.sheet.specs.Reading.{sheetOf}
 use Rattle.sheet.specs.Valid.{Valid}
 use Rattle.sheet.specs.declared.Sheet.{Sheet}
-use Rattle.plan.specs.Reading.{planDone, ordersOf, readingChecks, readPlan}
+use Rattle.plan.specs.Reading.{readPlan}
 use Rattle.plan.specs.Valid.{planLength, ValidOrders}
 use Rattle.plan.specs.Written.{listBytes, listsBytes, written}
 use Rattle.plan.specs.declared.Orders.{Orders}
 use Rattle.plan.specs.declared.PlanRead.{PlanRead}
-use Rattle.plan.proofs.Passing.{read-passes, passes-read}
 use Rattle.plan.proofs.Further.{further-refused, further-read}
-use Rattle.plan.proofs.Readable.{readable-sheet, readable-valid}
+use Rattle.plan.proofs.Readable.{readable-whole, readable-sheet, readable-valid}
 use Rattle.plan.proofs.Visitors.{visitors-most}
 use Rattle.plan.proofs.Lists.{listed-cart}
 use Rattle.plan.proofs.RoundTrip.{written-length}
-use Rattle.plan_writer.specs.Writing.{lent, Writable, WritableList, writingChecks, notWritten, writeAgain, roomAfter}
+use Rattle.plan_writer.specs.Writing.{lent, Writable, notWritten, writeAgain, roomAfter}
 
 -- what is written is told by the counts and lists alone
-lent-written : (n : ℕ) (orders : Orders) → written n (lent (orders .count) (orders .list)) ≡ written n orders
+pub lent-written : (n : ℕ) (orders : Orders) → written n (lent (orders .count) (orders .list)) ≡ written n orders
 unfolding written listsBytes listBytes
 lent-written n orders = refl
+
+-- stored at the start of room for it, with what follows as it was
+pub lent-stored : (n : ℕ) (orders : Orders) (room : List ℕ) (total : ℕ) → length (written n orders) ≡ total → total ≤ length room
+    → sets room 0 (written n (lent (orders .count) (orders .list))) ≡ written n orders ++ drop total room
+lent-stored n orders room total long l =
+    let beyond : 0 + length (written n orders) ≡ total = omega (arith, long) in
+    ap (λ (bytes : List ℕ). sets room 0 bytes) (lent-written n orders)
+    ∙ sets-eq (written n orders) room 0 (omega (arith, long, l))
+    ∙ ap (λ (k : ℕ). written n orders ++ drop k room) beyond
 
 -- orders that a sheet's plan may have can be written
 pub orders-writable : (sheet : Sheet) (orders : Orders) (room : List ℕ) → Valid sheet → ValidOrders sheet orders → planLength sheet ≤ length room → Writable (sheet .zones) (lent (orders .count) (orders .list)) room
@@ -61,14 +68,8 @@ module _ (s p : List ℕ) where
       sym (ap length (lent-written (sheet .zones) orders) ∙ written-length sheet (readable-sheet s p e) orders (readable-valid s p e))
 
   module _ (e : readPlan s p .outcome .number ≡ 0) (room : List ℕ) where
-    whole : readPlan s p ≡ planDone (sheetOf s) (ordersOf (sheetOf s) p)
-    whole = passes-read s p (read-passes s p e)
-
     same-sheet : sheet ≡ sheetOf s
-    same-sheet = ap (λ (r : PlanRead). r .sheet) whole
-
-    same-orders : orders ≡ ordersOf (sheetOf s) p
-    same-orders = ap (λ (r : PlanRead). r .orders) whole
+    same-sheet = ap (λ (r : PlanRead). r .sheet) (readable-whole s p e)
 
     short-is : length room < planLength sheet → (notWritten (refused 28 0) ≡ writeAgain s p (length room)) × (room ≡ roomAfter s p room)
     unfolding writeAgain roomAfter firstFailing
@@ -80,19 +81,14 @@ module _ (s p : List ℕ) where
     unfolding writeAgain roomAfter firstFailing
     done-is l =
         let fits : leb (planLength (sheetOf s)) (length room) ≡ true = le-leb _ _ (rw same-sheet at l) in (
-          ap (λ (r : PlanRead). record { outcome = r .outcome; length = planLength (r .sheet) }) whole ∙ sym (further-read _ _ s p _ e ∙ rw fits),
-          stored ∙ ap (λ (r : PlanRead). written (r .sheet .zones) (r .orders) ++ drop (planLength (r .sheet)) room) whole ∙ sym (further-read _ _ s p _ e ∙ rw fits),
+          ap (λ (r : PlanRead). record { outcome = r .outcome; length = planLength (r .sheet) }) (readable-whole s p e) ∙ sym (further-read _ _ s p _ e ∙ rw fits),
+          lent-stored (sheet .zones) orders room (planLength sheet) long l
+              ∙ ap (λ (r : PlanRead). written (r .sheet .zones) (r .orders) ++ drop (planLength (r .sheet)) room) (readable-whole s p e)
+              ∙ sym (further-read _ _ s p _ e ∙ rw fits),
         )
       where
         long : length (written (sheet .zones) orders) ≡ planLength sheet
         long = written-length sheet (readable-sheet s p e) orders (readable-valid s p e)
-
-        stored : sets room 0 (written (sheet .zones) (lent (orders .count) (orders .list))) ≡ written (sheet .zones) orders ++ drop (planLength sheet) room
-        stored =
-            let beyond : 0 + length (written (sheet .zones) orders) ≡ planLength sheet = omega (arith, long) in
-            ap (λ (bytes : List ℕ). sets room 0 bytes) (lent-written (sheet .zones) orders)
-            ∙ sets-eq (written (sheet .zones) orders) room 0 (omega (arith, long, l))
-            ∙ ap (λ (n : ℕ). written (sheet .zones) orders ++ drop n room) beyond
 
 -- the same of whatever reading the plan answered, and of the length as the routine works it out
 module _ (s p : List ℕ) (read : PlanRead) (is : read ≡ readPlan s p) where

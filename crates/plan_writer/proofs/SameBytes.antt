@@ -2,9 +2,9 @@
 use Prim.Native.Nat.{ℕ, _≤_}
 use mathlib.Core.Path.{_≡_, refl, sym, ap, ap₂, _∙_}
 use mathlib.Core.List.{List, _++_}
-use lib.Dec.{leb, lit<}
+use lib.Dec.{lit<}
 use lib.ListN.{length, drop}
-use Rattle.words.specs.Checks.{check, AllPass}
+use Rattle.words.specs.Checks.{AllPass}
 use Rattle.words.proofs.Tests.{leb-says}
 use Rattle.words.proofs.First.{pass-answers, done-passes}
 use Rattle.words.proofs.Says.{Says, check-says, _then_}

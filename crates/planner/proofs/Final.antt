@@ -24,12 +24,12 @@ use Rattle.removal.specs.Running.{movesMade, isOut, enteringTime}
 use Rattle.removal.specs.Removal.{decisions, finalOrders, plannedLists}
 use Rattle.removal.proofs.Spare.{finish-same}
 use Rattle.removal.proofs.Final.{final-out, final-strict}
+use Rattle.orders_present.proofs.Sheets.{sheet-plannable}
 use Rattle.orders_present.proofs.Settled.{present-system, present-sound, present-out, present-times}
 use Rattle.passing_lists.specs.Places.{Placeable, Listed}
 use Rattle.passing_lists.specs.declared.PassingLists.{PassingLists}
 use Rattle.passing_lists.proofs.Lists.{strict-placeable, lists-are}
 use Rattle.solving.specs.Final.{FinalOrders}
-use Rattle.solving.proofs.Sheets.{sheet-plannable}
 use Rattle.planner.specs.Planning.{unplanned, ordersBy, plannedOrders, planned}
 use Rattle.planner.specs.Lists.{listsPlanned}
 

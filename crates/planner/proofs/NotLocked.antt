@@ -16,6 +16,7 @@ use Rattle.routes.specs.Orders.{OnlyVisitors}
 use Rattle.routes.specs.Plans.{plan}
 use Rattle.times.specs.Times.{Given, finish, EnteringTimes}
 use Rattle.times.proofs.Finish.{finish-unique}
+use Rattle.times.proofs.SameOrders.{system-same, entering-orders}
 use Rattle.sheet.specs.Reading.{sheetDone, sheetOf, readSheet}
 use Rattle.sheet.specs.Valid.{Valid}
 use Rattle.sheet.specs.declared.Sheet.{Sheet}
@@ -24,12 +25,11 @@ use Rattle.plan.specs.Written.{written}
 use Rattle.plan.specs.Valid.{ValidOrders, planLength}
 use Rattle.plan.specs.declared.Orders.{Orders}
 use Rattle.plan.specs.declared.PlanRead.{PlanRead}
-use Rattle.plan.proofs.Passing.{read-passes, passes-read}
+use Rattle.plan.proofs.Readable.{readable-whole}
 use Rattle.plan.proofs.Further.{further-read}
 use Rattle.plan.proofs.RoundTrip.{written-length, written-readable}
 use Rattle.crossing.specs.Tables.{givenOf, sheetGiven}
 use Rattle.crossing.specs.Plans.{routesOf, listsOf, planCrossing}
-use Rattle.crossing.proofs.SameOrders.{system-same, entering-orders}
 use Rattle.judge.specs.Judging as judging
 use Rattle.judge.specs.declared.Judged.{Judged}
 use Rattle.judge.proofs.Verdict.{accepts-out}
@@ -40,7 +40,7 @@ use Rattle.removal.specs.Removal.{decisions, finalOrders, passingLists, planned
 use Rattle.removal.proofs.Running.{out-says, allMade, entering-made}
 use Rattle.removal.proofs.Final.{final-both, final-out}
 use Rattle.removal.proofs.Planned.{planned-complete, planned-orders, planned-lane}
-use Rattle.solving.proofs.Sheets.{sheet-plannable}
+use Rattle.orders_present.proofs.Sheets.{sheet-plannable}
 use Rattle.planner.specs.Planning.{unplanned, plannedOrders, planned}
 use Rattle.planner.proofs.Orders.{lists-are, orders-valid}
 
@@ -133,7 +133,7 @@ module _ (sheet : Sheet) (v : Valid sheet) where
 
       -- what the bytes say is what was written
       is : planDone (sheetOf s) (ordersOf (sheetOf s) p) ≡ planDone sheet orders
-      is = sym (passes-read s p (read-passes s p number)) ∙ planned-read s e
+      is = sym (readable-whole s p number) ∙ planned-read s e
 
       verdict : Sheet → Orders → Judged
       verdict read told = firstFailing (judging.judgeRefused read told) (judging.judged read told) (judging.verdictChecks read told room)

@@ -10,7 +10,7 @@ use lib.ListN.{length, getD, List·getD-eq-default}
 use lib.Seq.{ext-getD}
 use Rattle.words.specs.Lists.{entries}
 use Rattle.words.proofs.Entries.{length-entries, getD-entries, entries-is, at-entry}
-use Rattle.words.proofs.Tests.{ltb-says, eqb-says}
+use Rattle.words.proofs.Tests.{ltb-says, eqb-says, same-test}
 use Rattle.words.proofs.Tables.{used-entry, unused-entry, row-at, column-at, used-at, unused-at}
 use Rattle.sets.specs.Counting.{setBelow}
 use Rattle.sets.proofs.Counting.{count-same}
@@ -29,7 +29,6 @@ use Rattle.crossing.specs.Tables.{crossingOf}
 use Rattle.crossing.specs.Plans.{routesOf, listsOf}
 use Rattle.crossing.proofs.Tables.{steps-is, zone-is}
 use Rattle.crossing.proofs.Sheets.{step-is}
-use Rattle.removal.proofs.Tests.{same-test}
 use Rattle.planner.specs.Planning.{ordersBy}
 
 module _ (sheet : Sheet) (v : Valid sheet) where

@@ -1,28 +1,20 @@
 -- A record that is reached counts at most 144 moves: 9 of each of 16 carts.
-use Prim.Native.Nat.{ℕ, zero, suc, _*_, _≤_, zero-le}
+use Prim.Native.Nat.{ℕ, _≤_}
 use mathlib.Core.Path.{_≡_}
 use mathlib.Core.Bool.{true}
-use mathlib.Core.List.{List, [], _∷_}
+use mathlib.Core.List.{List}
 use native.Mathlib.Omega.{arith}
-use lib.ListN.{length}
-use Rattle.moves.specs.System.{pos, sum}
+use Rattle.moves.specs.System.{pos}
+use Rattle.moves.proofs.Positions.{sum-most}
 use Rattle.routes.specs.Crossing.{steps}
-use Rattle.routes.specs.Moves.{movesOf, system}
-use Rattle.routes.proofs.Moves.{out-are}
+use Rattle.routes.specs.Moves.{system}
+use Rattle.routes.proofs.Moves.{moves-most, out-are}
 use Rattle.crossing.specs.Tables.{crossingOf}
 use Rattle.crossing.proofs.Tables.{carts-16}
 use Rattle.record.specs.Record.{isReached}
 use Rattle.record.specs.Tables.{Orderly}
 use Rattle.record.specs.declared.Record.{Record}
 use Rattle.record.proofs.Reached.{reached-says}
-
-sum-most : (list : List ℕ) (most : ℕ) → ((c : ℕ) → pos list c ≤ most) → sum list ≤ most * length list
-sum-most [] most h = zero-le
-sum-most (x ∷ list) most h = omega (arith, h 0, sum-most list most (λ c. h (suc c)))
-
-moves-most : (k : ℕ) → movesOf k ≤ suc k
-moves-most zero = zero-le
-moves-most (suc k) = omega arith
 
 pub reached-few : (stepTable zoneTable aheadTable : List ℕ) → Orderly stepTable zoneTable aheadTable → (lent : Record)
     → isReached (system (crossingOf stepTable zoneTable aheadTable)) lent ≡ true → lent .made ≤ 144

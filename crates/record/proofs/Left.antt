@@ -1,5 +1,5 @@
 -- The carts that have left each zone: each has passed a step there, which is who visits the zones of the steps passed.
-use Prim.Native.Nat.{ℕ, zero, suc, _+_, _-_, _*_, _≤_, _<_}
+use Prim.Native.Nat.{ℕ, _+_, _-_, _*_, _≤_, _<_}
 use mathlib.Core.Path.{_≡_, sym, _∙_}
 use mathlib.Core.Logic.{_↔_}
 use mathlib.Core.Bool.{true, false≢true}
@@ -16,16 +16,11 @@ use Rattle.sets.proofs.Laws.{has-none, has-below}
 use Rattle.sets.proofs.Counting.{has-set, set-fits}
 use Rattle.moves.proofs.Search.{any-says}
 use Rattle.routes.specs.Crossing.{Crossing, steps, HasLeft}
-use Rattle.routes.specs.Moves.{movesOf}
+use Rattle.routes.proofs.Moves.{moves-most}
 use Rattle.crossing.specs.Tables.{crossingOf, LeftSet}
 use Rattle.crossing.proofs.Tables.{step-below, steps-is, zone-is}
 use Rattle.lists.specs.Sets.{Routes, names, whoVisits}
 use Rattle.record.specs.Tables.{NonePastOut, zonesLeft, Orderly}
-
--- a position that is not past out passes no more steps than there are
-passed-few : (k p : ℕ) → p ≤ movesOf k → p - 1 ≤ k
-passed-few zero p h = omega arith
-passed-few (suc k) p h = omega arith
 
 module _ (stepTable zoneTable aheadTable : List ℕ) (orderly : Orderly stepTable zoneTable aheadTable) where
   abbrev X : Crossing
@@ -52,7 +47,7 @@ module _ (stepTable zoneTable aheadTable : List ℕ) (orderly : Orderly stepTabl
     gone-is c l = at-entry 16 (λ d. getD at d 0 - 1) c l
 
     gone-few : (c : ℕ) → c < 16 → gone c ≤ steps X c
-    gone-few c l = omega (arith, gone-is c l, passed-few (getD stepTable c 0) (getD at c 0) (range c l), steps-is stepTable zoneTable aheadTable c l)
+    gone-few c l = omega (arith, gone-is c l, range c l, moves-most (getD stepTable c 0), steps-is stepTable zoneTable aheadTable c l)
 
     gone-none : (c : ℕ) → ¬ (c < 16) → gone c ≡ 0
     gone-none c n = List·getD-eq-default (zonesLeft at) 0 {n = c} (omega (arith, n, length-entries 16 0 (λ d. getD at d 0 - 1)))

@@ -14,14 +14,6 @@ use Rattle.crossing.proofs.Tables.{carts-16, steps-is}
 use Rattle.plan.specs.Valid.{sumBelow}
 use Rattle.record.specs.Tables.{NonePastOut}
 
-pub moves-none : (k : ℕ) → k ≡ 0 → movesOf k ≡ 0
-moves-none zero e = refl
-moves-none (suc k) e = absurd (omega arith)
-
-pub moves-some : (k : ℕ) → (k ≡ 0 → ⊥) → movesOf k ≡ k + 1
-moves-some zero n = absurd (n refl)
-moves-some (suc k) n = omega arith
-
 module _ (steps at : List ℕ) where
   -- no cart before c stands past out
   abbrev pub NoneBefore : ℕ → Type 0

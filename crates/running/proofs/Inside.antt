@@ -1,5 +1,5 @@
 -- The set of the carts that are not out: those that have steps at the start; a cart that comes out is taken from it; with none in it no move is left.
-use Prim.Native.Nat.{ℕ, zero, suc, _+_, _≤_, _<_}
+use Prim.Native.Nat.{ℕ, suc, _+_, _≤_, _<_}
 use mathlib.Core.Path.{_≡_, refl, sym, ap, _∙_}
 use mathlib.Core.Logic.{_↔_}
 use mathlib.Core.Bool.{true, false≢true}
@@ -10,22 +10,17 @@ use lib.ListN.{getD, replicate}
 use borrow.Author.Tests.{ltb-true, lt-ltb, le-ltb}
 use Rattle.sets.specs.Member.{has, With, Without}
 use Rattle.sets.specs.Counting.{setBelow}
-use Rattle.sets.proofs.Laws.{has-none, has-below}
-use Rattle.sets.proofs.Counting.{set-fits, has-set}
+use Rattle.sets.proofs.Laws.{has-none, has-below, without-gone, without-other}
+use Rattle.sets.proofs.Counting.{set-fits, has-set, set-with, set-as-before}
 use Rattle.moves.specs.System.{System, pos}
 use Rattle.moves.specs.Moves.{NotOut}
 use Rattle.moves.proofs.Positions.{zeros-pos}
 use Rattle.routes.specs.Crossing.{Crossing, steps}
-use Rattle.routes.specs.Moves.{movesOf, system}
-use Rattle.routes.proofs.Moves.{out-are, out-steps}
+use Rattle.routes.specs.Moves.{system}
+use Rattle.routes.proofs.Moves.{moves-within, out-are, out-steps}
 use Rattle.crossing.specs.Tables.{crossingOf}
 use Rattle.crossing.proofs.Tables.{steps-is, step-below}
-use Rattle.entering.proofs.SetLaws.{without-gone, without-other, set-with, set-as-before}
 use Rattle.running.specs.Rounds.{presentSet, InsideSet, Going}
-
-pub moves-some : (k p : ℕ) → p < movesOf k → 0 < k
-moves-some zero p h = absurd (omega arith)
-moves-some (suc k) p h = omega arith
 
 -- ---- the carts that have steps
 
@@ -55,7 +50,7 @@ module _ (stepTable : List ℕ) where
           let some : 0 < getD stepTable c 0 = ltb-true 0 _ (sym (has-set 16 _ c l) ∙ e) in
           omega (arith, zeros-pos 16 c, steps-is stepTable zoneTable aheadTable c l, out-steps X c 0 (omega (arith, steps-is stepTable zoneTable aheadTable c l))),
       λ h.
-          let some : 0 < steps X c = moves-some (steps X c) _ (rw (out-are X c) at h) in
+          let some : 0 < steps X c = moves-within (steps X c) _ (rw (out-are X c) at h) .0 in
           let l : c < 16 = step-below stepTable zoneTable aheadTable c 0 some in
           has-set 16 _ c l ∙ lt-ltb 0 (getD stepTable c 0) (omega (arith, steps-is stepTable zoneTable aheadTable c l)),
     )
@@ -68,7 +63,7 @@ module _ (X : Crossing) (old at : List ℕ) (c inside k : ℕ) (is : InsideSet X
   S = system X
 
   out-at : pos (S .out) c ≡ suc (steps X c)
-  out-at = out-steps X c 0 (moves-some (steps X c) (pos old c) (rw (out-are X c) at (is c .0 member)))
+  out-at = out-steps X c 0 (moves-within (steps X c) (pos old c) (rw (out-are X c) at (is c .0 member)) .0)
 
   as-before : (d : ℕ) → ¬ (d ≡ c) → (has inside d ≡ true) ↔ NotOut S at d
   as-before d n = rw (others d n) (is d)

@@ -13,7 +13,7 @@ use Rattle.moves.specs.System.{System, pos}
 use Rattle.moves.specs.Moves.{moved, NotOut, Permitted}
 use Rattle.routes.specs.Crossing.{Crossing, steps}
 use Rattle.routes.specs.Moves.{system}
-use Rattle.routes.proofs.Moves.{out-are, out-steps}
+use Rattle.routes.proofs.Moves.{moves-within, out-are, out-steps}
 use Rattle.times.specs.Times.{Given}
 use Rattle.crossing.specs.Tables.{crossingOf, givenOf}
 use Rattle.crossing.proofs.Tables.{carts-16, steps-is}
@@ -22,7 +22,6 @@ use Rattle.entering.specs.Times.{clearOf, latest, Enterable}
 use Rattle.one_move.specs.Running.{ZoneLeft, CanGoOn, GoneOn, CanGoOut, Running}
 use Rattle.one_move.proofs.Steps.{steps-8, x-few, enter-says, x-enterable, first-moved, can-go-on, next-moved, out-may, can-go-out, out-moved}
 use Rattle.running.specs.Rounds.{Underway, Onward, Advanced}
-use Rattle.running.proofs.Inside.{moves-some}
 use Rattle.running.proofs.Rounds.{place-most, here, underway-room, underway-turn}
 
 module _ (stepTable zoneTable aheadTable same arrival passing travel follow cross : List ℕ) where
@@ -69,7 +68,7 @@ module _ (stepTable zoneTable aheadTable same arrival passing travel follow cros
     }
       where
         some-steps : 0 < steps X c
-        some-steps = moves-some (steps X c) (pos old c) (rw (out-are X c) at inside)
+        some-steps = moves-within (steps X c) (pos old c) (rw (out-are X c) at inside) .0
 
   module _ (old left leave enter order : List ℕ) (c before made p : ℕ) (on : Advancing old left leave enter order c before made p) where
     abbrev at : List ℕ

@@ -8,7 +8,7 @@ use native.Mathlib.Nat.{le-refl}
 use native.Mathlib.Omega.{arith}
 use lib.ListN.{length, replicate, length-replicate}
 use Rattle.sets.specs.Member.{has, Without, Within, Lowest, Rest}
-use Rattle.sets.proofs.Laws.{has-none}
+use Rattle.sets.proofs.Laws.{has-none, without-gone, without-other}
 use Rattle.moves.specs.System.{System, carts, pos, start}
 use Rattle.moves.specs.Moves.{Permitted}
 use Rattle.moves.specs.Runs.{Stuck}
@@ -21,7 +21,6 @@ use Rattle.routes.specs.Moves.{system}
 use Rattle.times.specs.Times.{Given}
 use Rattle.crossing.specs.Sound.{Sound}
 use Rattle.one_move.specs.Running.{Running}
-use Rattle.entering.proofs.SetLaws.{without-gone, without-other}
 use Rattle.running.specs.Rounds.{InsideSet, Going, Underway, Advanced, Swept}
 use Rattle.running.specs.Settled.{SettlesAs}
 use Rattle.running.proofs.Inside.{inside-kept, inside-out, inside-going}

@@ -1,10 +1,11 @@
 -- What reading a sheet answers, for every byte string.
-use Prim.Native.Nat.{ℕ, _+_, _*_, _/_, _%_}
-use mathlib.Core.Bool.{Bool, _&&_}
+use Prim.Native.Nat.{ℕ, _/_, _%_}
+use mathlib.Core.Bool.{_&&_}
 use mathlib.Core.List.{List}
 use lib.Dec.{ltb}
 use lib.ListN.{replicate}
 use Rattle.words.specs.Lists.{pick, entries}
+pub use Rattle.words.specs.Lists.{table}
 use Rattle.words.specs.Checks.{done, firstFailing}
 use Rattle.words.specs.declared.Outcome.{Outcome}
 use Rattle.sheet.specs.Layout.{zoneCount, followOf, crossOf, cartCount, laneOf, arrivalOf, stepCount, zoneOf, passingOf, travelOf}
@@ -34,10 +35,6 @@ sheetRefused outcome = record { outcome = outcome; sheet = blank }
 
 abbrev pub sheetDone : Sheet → SheetRead
 sheetDone sheet = record { outcome = done; sheet = sheet }
-
--- width entries: the first n by a rule, the unused ones 0
-abbrev pub table : ℕ → ℕ → (ℕ → ℕ) → List ℕ
-table width n rule = entries width 0 λ k. pick (ltb k n) (rule k) 0
 
 -- 8 entries for each of 16 carts: those of the steps by a rule, the unused ones 0
 abbrev pub stepTable : List ℕ → (ℕ → ℕ → ℕ) → List ℕ

@@ -40,7 +40,6 @@ module _ {steps zone lane arrival passing travel follow cross ranks pairs visit 
       rising = omega arith;
       U = U;
       told = asked .told;
-      of-ranks = omega (arith, asked .of-ranks, two-ranks);
       decided = decided;
       solved = kept;
     }
@@ -52,7 +51,6 @@ module _ {steps zone lane arrival passing travel follow cross ranks pairs visit 
         rising = omega (arith, two-ranks);
         U = U;
         told = asked .told;
-        of-ranks = asked .of-ranks;
         decided = solved U high low (middle low high) decided;
         solved = lower .holds U (asked .told) decided kept high (omega (arith, two-ranks));
       }

@@ -21,12 +21,11 @@ use Rattle.ranks.specs.Ranks.{Ranks}
 use Rattle.ranks.proofs.Ranking.{ranks-are}
 use Rattle.visiting.specs.Visiting.{RoutesOnce, Places}
 use Rattle.orders_present.specs.Unplanned.{sheetUnplanned}
-use Rattle.orders_present.proofs.Sheets as present
+use Rattle.orders_present.proofs.Sheets.{sheet-plannable, sheet-is-sized}
 use Rattle.groups.specs.Starting.{Starts}
 use Rattle.trials.specs.Trying.{Told, Solved, Triable}
 use Rattle.solving.specs.Solving.{Solves}
 use Rattle.solving.specs.Final.{FinalOrders}
-use Rattle.solving.proofs.Sheets.{sheet-plannable}
 
 module _ (sheet : Sheet) (v : Valid sheet) where
   abbrev U : Unplanned
@@ -62,10 +61,9 @@ module _ (sheet : Sheet) (v : Valid sheet) where
     unfolding givenOf
     sheet-told = record {
       is = refl;
-      able = sheet-plannable sheet v;
-      plannable = present.sheet-plannable sheet v;
+      sheet-sized = sheet-is-sized sheet v;
       has-ranks = record { at-cart = ranks-are (sheet .arrival) U (λ _. refl) ranks ranked };
-      has-pairs = starts .holds (sheet .arrival) (sheet .passing) (sheet .travel) (sheet .follow) (sheet .cross) (sheet .zones) (sheet .carts) (present.sheet-plannable sheet v) .1;
+      has-pairs = starts .holds (sheet .arrival) (sheet .passing) (sheet .travel) (sheet .follow) (sheet .cross) (sheet .zones) (sheet .carts) (sheet-is-sized sheet v) .1;
       routed = sheet-routed;
       places = places;
       steps-16 = v .shaped .steps-16;
@@ -77,13 +75,13 @@ module _ (sheet : Sheet) (v : Valid sheet) where
     start-solved : Solved U 0 [] ahead behind undecided
     start-solved = record {
       below = none-solved U (sheet-plannable sheet v);
-      holds = starts .holds (sheet .arrival) (sheet .passing) (sheet .travel) (sheet .follow) (sheet .cross) (sheet .zones) (sheet .carts) (present.sheet-plannable sheet v) .0;
+      holds = starts .holds (sheet .arrival) (sheet .passing) (sheet .travel) (sheet .follow) (sheet .cross) (sheet .zones) (sheet .carts) (sheet-is-sized sheet v) .0;
     }
 
     -- "Solve the group of all ranks"
     pub sheet-triable : Triable (sheet .steps) (sheet .zone) (sheet .lane) (sheet .arrival) (sheet .passing) (sheet .travel) (sheet .follow) (sheet .cross)
         ranks pairs visit 0 (sheet .carts) ahead behind undecided
-    sheet-triable = record { rising = zero-le; U = U; told = sheet-told; of-ranks = omega arith; decided = []; solved = start-solved }
+    sheet-triable = record { rising = zero-le; U = U; told = sheet-told; decided = []; solved = start-solved }
 
     pub sheet-solved : {ahead′ behind′ undecided′ : List ℕ}
         → Solves (sheet .steps) (sheet .zone) (sheet .lane) (sheet .arrival) (sheet .passing) (sheet .travel) (sheet .follow) (sheet .cross)

@@ -118,7 +118,7 @@ module _ (stepTable zoneTable lane arrival passing travel follow cross ranks pai
         unfolding givenOf
         in-range = record {
           zone-most = told .zone-most;
-          cross-most = told .plannable .ranged .cross-most;
+          cross-most = told .sheet-sized .ranged .cross-most;
           passing-most = told .passing-most;
           visit-most = λ y. omega (arith, told .places .below y);
           enter-most = runs .settled .enter-most;
@@ -150,7 +150,7 @@ module _ (stepTable zoneTable lane arrival passing travel follow cross ranks pai
         spares-same : SameAtSteps (U .routes) (spareTime Z G (movesMade Z) time) (timesOf spare)
         unfolding givenOf
         spares-same c j h =
-            spare-time-same Z G (told .able .once) (present-both U low high decided) (allMade Z all-out) run-made time (timesOf enter) times-same c j h
+            spare-time-same Z G (told .sheet-sized .able .once) (present-both U low high decided) (allMade Z all-out) run-made time (timesOf enter) times-same c j h
             ∙ sym (spare-told stepTable zoneTable behind (Z .before) (told .routed) (λ c j d h. holds .at-step c j h .behind-is d) passing enter order (run .made) finishing spare
             spares G (λ c j. refl) finish-same c j h)
 

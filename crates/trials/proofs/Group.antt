@@ -51,7 +51,7 @@ module _ (steps zone lane arrival passing travel follow cross ranks pairs visit 
         runs = runs;
         comes-out =
             sym (run-says steps zone lane arrival passing travel follow cross ranks pairs visit ahead behind undecided enter order run runs (triable .U) (triable .told) low high (triable .decided) held)
-            ∙ group-starts (triable .U) (triable .told .able) low high (triable .decided) (triable .rising) (triable .solved .below);
+            ∙ group-starts (triable .U) (triable .told .sheet-sized .able) low high (triable .decided) (triable .rising) (triable .solved .below);
       };
     }
 
@@ -65,15 +65,15 @@ module _ (steps zone lane arrival passing travel follow cross ranks pairs visit 
   -- every pair of the group is decided, and the tables hold the orders below the next group
   module _ (U : Unplanned) (told : IsTold U) (decided : List Order) (solved : Solved U low decided ahead₀ behind₀ undecided₀)
       (all : List Order) (is : trial U low high decided ≡ some all) where
-    tried : Tried U (told .able) low high decided all
-    tried = trial-tried U (told .able) low high decided (trial-starts U (told .able) low high decided (triable .rising) (solved .below)) all is
+    tried : Tried U (told .sheet-sized .able) low high decided all
+    tried = trial-tried U (told .sheet-sized .able) low high decided (trial-starts U (told .sheet-sized .able) low high decided (triable .rising) (solved .below)) all is
 
     closed : (ahead behind undecided : List ℕ) → Holds U low high all ahead behind undecided → Solved U high all ahead behind undecided
     closed ahead behind undecided holds = record {
-      below = tried-solved U (told .able) low high decided (triable .rising) (solved .below) all tried;
+      below = tried-solved U (told .sheet-sized .able) low high decided (triable .rising) (solved .below) all tried;
       holds =
           leaves-group U low high all ahead behind undecided
-          (before-closed U (told .able) low high decided (triable .rising) (solved .below) all tried) (tried .none-left) holds;
+          (before-closed U (told .sheet-sized .able) low high decided (triable .rising) (solved .below) all tried) (tried .none-left) holds;
     }
 
   module _ (ahead behind undecided : List ℕ) (found : Bool)

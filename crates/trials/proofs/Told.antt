@@ -65,11 +65,11 @@ module _ (stepTable zoneTable lane arrival passing travel follow cross ranks pai
   pub tabled : (U : Unplanned) → IsTold U → Tabled U zoneTable cross passing ranks visit
   unfolding givenOf
   tabled U told = record {
-    carts-most = told .plannable .carts-most;
-    steps-most = told .plannable .ranged .steps-most;
-    present = told .plannable .step-cart;
-    once = told .able .once;
-    zone-below = told .plannable .zone-below;
+    carts-most = told .sheet-sized .carts-most;
+    steps-most = told .sheet-sized .ranged .steps-most;
+    present = λ c j h. told .sheet-sized .able .cart-below c _ (j, h, refl);
+    once = told .sheet-sized .able .once;
+    zone-below = λ c j h. told .sheet-sized .able .zone-below c _ (j, h, refl);
     zone-is = λ c j h. step-is U told c j h .zone-at;
     visit-is = λ c j h.
         let is = step-is U told c j h in

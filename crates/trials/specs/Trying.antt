@@ -7,10 +7,9 @@ use mathlib.Core.List.{List}
 use lib.ListN.{length}
 use Rattle.entering.specs.Times.{AtMost}
 use Rattle.removal.specs.Pairs.{Unplanned, Order}
-use Rattle.removal.specs.Plannable as removing
 use Rattle.removal.specs.Solved.{SolvedBelow}
 use Rattle.removal.specs.Removal.{trial}
-use Rattle.orders_present.specs.Unplanned.{unplannedOf, Plannable}
+use Rattle.orders_present.specs.Unplanned.{unplannedOf, SheetSized}
 use Rattle.orders_present.specs.Holds.{Holds}
 use Rattle.groups.specs.Pairs.{HasRanks, HasPairs}
 use Rattle.visiting.specs.Visiting.{RoutesOnce, Places}
@@ -18,8 +17,7 @@ use Rattle.visiting.specs.Visiting.{RoutesOnce, Places}
 -- the tables of a sheet, and what is worked out once for it, tell of U: its routes, times, ranks, pairs and places of steps
 pub record Told (U : Unplanned) (steps zone lane arrival passing travel follow cross ranks pairs visit : List ℕ) : Type 0 where
   pub is : U ≡ unplannedOf steps zone lane arrival passing travel follow cross (U .zones) (U .carts)
-  pub able : removing.Plannable U
-  pub plannable : Plannable U
+  pub sheet-sized : SheetSized U
   pub has-ranks : HasRanks U ranks
   pub has-pairs : HasPairs U pairs
   pub routed : RoutesOnce steps zone
@@ -47,7 +45,6 @@ module _ (steps zone lane arrival passing travel follow cross ranks pairs visit 
     pub rising : low ≤ high
     pub U : Unplanned
     pub told : Told U steps zone lane arrival passing travel follow cross ranks pairs visit
-    pub of-ranks : high ≤ U .carts
     pub decided : List Order
     pub solved : Solved U low decided ahead behind undecided
 

@@ -16,16 +16,15 @@ use Rattle.fields.specs.Field.{value}
 use Rattle.sheet.specs.Reading.{sheetOf}
 use Rattle.sheet.specs.declared.Sheet.{Sheet}
 use Rattle.plan.specs.Layout.{countAt, countOf, cartAt}
-use Rattle.plan.specs.Reading.{planDone, ordersOf, readPlan}
+use Rattle.plan.specs.Reading.{readPlan}
 use Rattle.plan.specs.Valid.{sumBelow, passingList}
 use Rattle.plan.specs.Written.{count, listed}
 use Rattle.plan.specs.declared.Orders.{Orders}
 use Rattle.plan.specs.declared.PlanRead.{PlanRead}
-use Rattle.plan.proofs.Passing.{read-passes, passes-read}
 use Rattle.plan.proofs.Further.{further-refused, further-read}
 use Rattle.plan.proofs.Shows.{ShowsList}
 use Rattle.plan.proofs.Visitors.{visitors-most}
-use Rattle.plan.proofs.Readable.{readable-sheet, readable-valid, readable-shows}
+use Rattle.plan.proofs.Readable.{readable-whole, readable-sheet, readable-valid, readable-shows}
 use Rattle.zone_list.specs.Finding.{notFound, findList, FoundIs}
 use Rattle.zone_list.specs.declared.ListFound.{ListFound}
 
@@ -51,11 +50,8 @@ module _ (s p : List ℕ) (zone : ℕ) where
     abbrev orders : Orders
     orders = readPlan s p .orders
 
-    whole : readPlan s p ≡ planDone (sheetOf s) (ordersOf (sheetOf s) p)
-    whole = passes-read s p (read-passes s p e)
-
     same-zones : sheet .zones ≡ sheetOf s .zones
-    same-zones = ap (λ (r : PlanRead). r .sheet .zones) whole
+    same-zones = ap (λ (r : PlanRead). r .sheet .zones) (readable-whole s p e)
 
     shown : (z : ℕ) → z < sheet .zones → ShowsList p orders z
     shown z h = readable-shows s p e .list z h
@@ -79,7 +75,7 @@ module _ (s p : List ℕ) (zone : ℕ) where
         start = omega (arith, at l, q)
 
         found : _≡_ {A = ListFound} (record { outcome = readPlan s p .outcome; start = 5 + zone + sum; length = count orders zone }) (record { outcome = done; start = cartAt p zone 0; length = countOf p zone })
-        found = rw (ap (λ (r : PlanRead). r .outcome) whole, start, shown zone l .count-is .keeps)
+        found = rw (ap (λ (r : PlanRead). r .outcome) (readable-whole s p e), start, shown zone l .count-is .keeps)
 
         inside : Dec (0 < count orders zone) → 5 + zone + sum + count orders zone ≤ length p
         inside (yes some) = omega (arith, start, shown zone l .cart-is (count orders zone - 1) (omega arith) .there)

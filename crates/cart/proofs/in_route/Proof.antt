@@ -7,7 +7,6 @@ use borrow.Author.Tests.{eq-eqb, ne-eqb}
 use Rattle.words.specs.Lists.{anyBelow}
 use Rattle.words.proofs.Any.{any-more, any-found}
 use Rattle.cart.specs.Parts.{inRoute}
-use borrow.Author.Needs.{needs}
 use Rattle.cart.proofs.in_route.Statement.{statement}
 use Rattle.cart.proofs.in_route.Tie as tie
 

@@ -1,8 +1,7 @@
 -- The loop keeps the largest of the carts before c.
-use Prim.Native.Nat.{ℕ, _-_, _≤_}
-use mathlib.Core.Path.{_≡_, refl, sym, ap, _∙_}
+use Prim.Native.Nat.{_-_, _≤_}
+use mathlib.Core.Path.{_≡_}
 use native.Mathlib.Omega.{arith}
-use native.Mathlib.Numerals.{add-one}
 use Rattle.times.specs.Times.{largest}
 use Rattle.finish.specs.Finish.{lastLeaving}
 use Rattle.finish.proofs.Largest.{largest-none, largest-next, largest-all}

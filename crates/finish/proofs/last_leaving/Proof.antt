@@ -2,7 +2,6 @@
 use native.Mathlib.Omega.{arith}
 use borrow.Author.Tests.{eq-eqb, ne-eqb}
 use Rattle.finish.specs.Finish.{lastAt}
-use borrow.Author.Needs.{needs}
 use Rattle.finish.proofs.last_leaving.Statement.{statement}
 use Rattle.finish.proofs.last_leaving.Tie as tie
 

@@ -2,9 +2,9 @@
 use Prim.Native.Nat.{_-_, _≤_}
 use mathlib.Core.Path.{_≡_, _∙_}
 use native.Mathlib.Omega.{arith}
-use Rattle.sheet.specs.Reading.{table}
+use Rattle.words.specs.Lists.{table}
+use Rattle.words.proofs.Filling.{table-none, table-next, table-all}
 use Rattle.groups.specs.Starting.{laneMates}
-use Rattle.groups.proofs.Filling.{filled-none, filled-next, filled-all}
 use Rattle.groups.proofs.Starting.{mate, mate-is}
 use borrow.Author.Needs.{needs}
 use Rattle.groups.proofs.lane_mates.Statement.{statement}
@@ -17,7 +17,7 @@ abbrev μ-loop : tie.MeasureT-loop
 μ-loop lane mates₀ c₀ mates c = 16 - c
 
 loop-holds : tie.Need-loop-holds Inv-loop μ-loop
-loop-holds c = (omega arith, filled-none 16 _)
+loop-holds c = (omega arith, table-none 16 _)
 
 element-copy-out-wide : tie.Need-element-copy-out-wide Inv-loop μ-loop
 element-copy-out-wide c = search needs
@@ -52,11 +52,11 @@ loop-less c = omega arith
 loop-again : tie.Need-loop-again Inv-loop μ-loop
 loop-again c =
     let own = mate-is (c .before .before .before .before .before .before .before .args .lane .now) _ _ _ _ _ (c .before .before .before .wide .ensures .0) (c .before .before .at-least .ensures) (c .before .at-least2 .ensures) (c .less .ensures) (omega (arith, c .less .ok)) in
-    (omega arith, filled-next 16 _ _ _ _ (c .before .before .before .before .before .loop-test .taken) own (c .before .before .before .before .before .before .loop .inv .1))
+    (omega arith, table-next 16 _ _ _ _ (c .before .before .before .before .before .loop-test .taken) own (c .before .before .before .before .before .before .loop .inv .1))
 
 returns : tie.Need-returns Inv-loop μ-loop
 unfolding laneMates
-returns c = c .before .loop .inv .1 ∙ filled-all 16 _ _ (omega arith)
+returns c = c .before .loop .inv .1 ∙ table-all 16 _ _ (omega arith)
 
 pub lane-mates-spec : {M : Type 1} → statement M
 lane-mates-spec =

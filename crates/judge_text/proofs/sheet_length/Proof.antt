@@ -1,7 +1,6 @@
 -- By what the field of two bytes answers, and by how many bytes there are.
 use mathlib.Core.Path.{sym, _∙_}
 use native.Mathlib.Nat.{le-refl}
-use native.Mathlib.Omega.{arith}
 use borrow.Author.Tests.{le-leb, lt-leb}
 use Rattle.judge_text.specs.Input.{sheetLength}
 use borrow.Author.Needs.{needs}

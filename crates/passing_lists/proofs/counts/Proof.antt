@@ -4,8 +4,8 @@ use mathlib.Core.Path.{_≡_, _∙_}
 use native.Mathlib.Omega.{arith}
 use lib.ListN.{getD}
 use lib.Count.{ones}
-use Rattle.sheet.specs.Reading.{table}
-use Rattle.groups.proofs.Filling.{filled-none, filled-next, filled-all}
+use Rattle.words.specs.Lists.{table}
+use Rattle.words.proofs.Filling.{table-none, table-next, table-all}
 use Rattle.passing_lists.proofs.Placing.{visitors-few}
 use borrow.Author.Needs.{needs}
 use Rattle.passing_lists.proofs.counts.Statement.{statement}
@@ -18,7 +18,7 @@ abbrev μ-loop : tie.MeasureT-loop
 μ-loop steps zone visitors count₀ z₀ count z = 24 - z
 
 loop-holds : tie.Need-loop-holds Inv-loop μ-loop
-loop-holds c = (omega arith, filled-none 24 _)
+loop-holds c = (omega arith, table-none 24 _)
 
 mul-count : tie.Need-mul-count Inv-loop μ-loop
 mul-count c = search needs
@@ -42,10 +42,10 @@ loop-less : tie.Need-loop-less Inv-loop μ-loop
 loop-less c = omega arith
 
 loop-again : tie.Need-loop-again Inv-loop μ-loop
-loop-again c = (omega arith, filled-next 24 _ _ _ _ (c .before .before .loop-test .taken) (c .count .ensures) (c .before .before .before .loop .inv .1))
+loop-again c = (omega arith, table-next 24 _ _ _ _ (c .before .before .loop-test .taken) (c .count .ensures) (c .before .before .before .loop .inv .1))
 
 returns : tie.Need-returns Inv-loop μ-loop
-returns c = c .before .loop .inv .1 ∙ filled-all 24 _ _ (omega arith)
+returns c = c .before .loop .inv .1 ∙ table-all 24 _ _ (omega arith)
 
 pub counts-spec : {M : Type 1} → statement M
 counts-spec =

@@ -6,10 +6,10 @@ use Rattle.plan_text.proofs.put_bytes.Statement.{statement}
 use Rattle.plan_text.proofs.put_bytes.Tie as tie
 
 abbrev Inv-loop : tie.InvT-loop
-Inv-loop bytes i₀ i = Unit {0}
+Inv-loop bytes in-hex i₀ i = Unit {0}
 
 abbrev μ-loop : tie.MeasureT-loop
-μ-loop bytes i₀ i = length bytes - i
+μ-loop bytes in-hex i₀ i = length bytes - i
 
 loop-holds : tie.Need-loop-holds Inv-loop μ-loop
 loop-holds c = search needs

@@ -1,14 +1,12 @@
 -- The loop keeps that storing the carts that are left gives the whole list.
 use Prim.Native.Nat.{_+_, _-_, _*_, _≤_}
-use mathlib.Core.Path.{_≡_, refl, sym, ap, _∙_}
+use mathlib.Core.Path.{_≡_, refl, _∙_}
 use native.Mathlib.Omega.{arith}
 use lib.ListN.{length, getD, length-set}
 use lib.Seq.{sets}
 use Rattle.words.specs.Lists.{each}
 use Rattle.fields.specs.Bytes.{bytesOf}
-use Rattle.plan.specs.Written.{listBytes}
 use Rattle.plan_writer.proofs.WritingLaws.{store-start, store-turn, store-list}
-use borrow.Author.Needs.{needs}
 use Rattle.plan_writer.proofs.write_list.Statement.{statement}
 use Rattle.plan_writer.proofs.write_list.Tie as tie
 

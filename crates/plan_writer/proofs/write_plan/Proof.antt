@@ -1,8 +1,8 @@
 -- The loop keeps that storing the lists that are left gives the whole plan.
 use Prim.Native.Nat.{_-_}
-use mathlib.Core.Path.{_≡_, sym, _∙_}
+use mathlib.Core.Path.{sym, _∙_}
 use native.Mathlib.Omega.{arith}
-use lib.ListN.{length, length-set}
+use lib.ListN.{length-set}
 use Rattle.plan_writer.specs.Writing.{lent}
 use Rattle.plan_writer.proofs.WritingLaws.{written-length, store-head, Storing, storing-start, storing-room, storing-turn, storing-end}
 use borrow.Author.Needs.{needs}

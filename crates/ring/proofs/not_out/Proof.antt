@@ -1,9 +1,8 @@
 -- A cart without steps makes no move; another is out past its last step.
-use mathlib.Core.Path.{sym}
 use mathlib.Core.Bool.{false≢true}
 use native.Mathlib.Omega.{arith}
-use Rattle.words.proofs.Tests.{leb-says}
-use Rattle.ring.proofs.Stuck.{moves-none, moves-some}
+use Rattle.routes.proofs.Moves.{moves-none}
+use Rattle.ring.proofs.Stuck.{steps-left}
 use borrow.Author.Needs.{needs}
 use Rattle.ring.proofs.not_out.Statement.{statement}
 use Rattle.ring.proofs.not_out.Tie as tie
@@ -12,7 +11,7 @@ element-copy-out-if1 : tie.Need-element-copy-out-if1
 element-copy-out-if1 c = search needs
 
 returns : tie.Need-returns
-returns c = (λ e. absurd (false≢true e), λ h. absurd (moves-none _ _ (c .if1 .taken) h))
+returns c = (λ e. absurd (false≢true e), λ h. absurd (omega (arith, moves-none _ (c .if1 .taken))))
 
 element-copy-out-result : tie.Need-element-copy-out-result
 element-copy-out-result c = search needs
@@ -21,7 +20,7 @@ element-copy-out-result-2 : tie.Need-element-copy-out-result-2
 element-copy-out-result-2 c = search needs
 
 returns-2 : tie.Need-returns-2
-returns-2 c = (λ e. moves-some _ _ (c .before .before .if1 .left) .0 (leb-says _ _ .0 e), λ h. leb-says _ _ .1 (moves-some _ _ (c .before .before .if1 .left) .1 h))
+returns-2 c = steps-left _ _ (c .before .before .if1 .left)
 
 pub not-out-spec : {M : Type 1} → statement M
 not-out-spec =

@@ -1,9 +1,8 @@
 -- The tables hold what the definition says of each cart.
 use mathlib.Core.Path.{refl, _∙_}
 use native.Mathlib.Omega.{arith}
-use Rattle.ring.proofs.Filling.{below-all}
+use Rattle.ring.proofs.Below.{below-all}
 use Rattle.ring.proofs.Same.{ring-tables}
-use borrow.Author.Needs.{needs}
 use Rattle.ring.proofs.ring_of.Statement.{statement}
 use Rattle.ring.proofs.ring_of.Tie as tie
 

@@ -2,20 +2,21 @@
 use Prim.Native.Nat.{_-_, _≤_}
 use mathlib.Core.Path.{_≡_, _∙_}
 use native.Mathlib.Omega.{arith}
+use Rattle.words.specs.Lists.{table}
+use Rattle.words.proofs.Filling.{table-none, table-next, table-all}
 use Rattle.ring.specs.Tables.{wantedIn}
-use Rattle.ring.proofs.Filling.{filledTo, filled-none, filled-next, filled-all}
 use borrow.Author.Needs.{needs}
 use Rattle.ring.proofs.wanted_zones.Statement.{statement}
 use Rattle.ring.proofs.wanted_zones.Tie as tie
 
 abbrev Inv-loop : tie.InvT-loop
-Inv-loop steps zone at wanted₀ c₀ wanted c = (c ≤ 16) × (wanted ≡ filledTo (wantedIn steps zone at) c)
+Inv-loop steps zone at wanted₀ c₀ wanted c = (c ≤ 16) × (wanted ≡ table 16 c (wantedIn steps zone at))
 
 abbrev μ-loop : tie.MeasureT-loop
 μ-loop steps zone at wanted₀ c₀ wanted c = 16 - c
 
 loop-holds : tie.Need-loop-holds Inv-loop μ-loop
-loop-holds c = (omega arith, filled-none _)
+loop-holds c = (omega arith, table-none 16 _)
 
 wanted-zone-requires : tie.Need-wanted-zone-requires Inv-loop μ-loop
 wanted-zone-requires c κs = (c .loop-test .taken, c .before .before .pre .steps-most _ (c .loop-test .taken), c .before .before .pre .zone-below _ (c .loop-test .taken))
@@ -33,10 +34,10 @@ loop-less : tie.Need-loop-less Inv-loop μ-loop
 loop-less c = search needs
 
 loop-again : tie.Need-loop-again Inv-loop μ-loop
-loop-again c = (omega (arith, c .before .loop-test .taken), filled-next _ _ _ _ (c .before .loop-test .taken) (c .before .before .loop .inv .1) (c .wanted-zone .ensures))
+loop-again c = (omega (arith, c .before .loop-test .taken), table-next 16 _ _ _ _ (c .before .loop-test .taken) (c .wanted-zone .ensures) (c .before .before .loop .inv .1))
 
 returns : tie.Need-returns Inv-loop μ-loop
-returns c = c .before .loop .inv .1 ∙ filled-all _ _ (omega (arith, c .before .loop .inv .0, c .loop-test .left))
+returns c = c .before .loop .inv .1 ∙ table-all 16 _ _ (omega (arith, c .before .loop .inv .0, c .loop-test .left))
 
 pub wanted-zones-spec : {M : Type 1} → statement M
 wanted-zones-spec =

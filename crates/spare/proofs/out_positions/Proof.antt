@@ -1,19 +1,23 @@
 -- The loop keeps that the carts before c stand where they are out.
-use Prim.Native.Nat.{_-_}
+use Prim.Native.Nat.{_-_, _≤_}
+use mathlib.Core.Path.{_≡_, _∙_}
 use native.Mathlib.Omega.{arith}
-use Rattle.spare.proofs.Out.{OutTo, out-none, out-next, out-all}
+use lib.ListN.{getD}
+use Rattle.words.specs.Lists.{table}
+use Rattle.words.proofs.Filling.{table-none, table-next, table-all}
+use Rattle.routes.specs.Moves.{movesOf}
 use borrow.Author.Needs.{needs}
 use Rattle.spare.proofs.out_positions.Statement.{statement}
 use Rattle.spare.proofs.out_positions.Tie as tie
 
 abbrev Inv-loop : tie.InvT-loop
-Inv-loop steps at₀ c₀ at c = OutTo steps c at
+Inv-loop steps at₀ c₀ at c = (c ≤ 16) × (at ≡ table 16 c (λ d. movesOf (getD steps d 0)))
 
 abbrev μ-loop : tie.MeasureT-loop
 μ-loop steps at₀ c₀ at c = 16 - c
 
 loop-holds : tie.Need-loop-holds Inv-loop μ-loop
-loop-holds c = out-none _
+loop-holds c = (omega arith, table-none 16 _)
 
 element-copy-out-moves-of : tie.Need-element-copy-out-moves-of Inv-loop μ-loop
 element-copy-out-moves-of c = search needs
@@ -31,10 +35,10 @@ loop-less : tie.Need-loop-less Inv-loop μ-loop
 loop-less c = search needs
 
 loop-again : tie.Need-loop-again Inv-loop μ-loop
-loop-again c = out-next _ _ _ _ (omega arith) (c .before .before .before .loop .inv) (c .moves-of .ensures)
+loop-again c = (omega arith, table-next 16 _ _ _ _ (omega arith) (c .moves-of .ensures) (c .before .before .before .loop .inv .1))
 
 returns : tie.Need-returns Inv-loop μ-loop
-returns c = out-all _ _ _ (c .loop-test .left) (c .before .loop .inv)
+returns c = c .before .loop .inv .1 ∙ table-all 16 _ _ (omega arith)
 
 pub out-positions-spec : {M : Type 1} → statement M
 out-positions-spec =

@@ -1,5 +1,4 @@
 -- Each way out is what reading the plan and the zone's number say.
-use mathlib.Core.Path.{sym, _∙_}
 use native.Mathlib.Omega.{arith}
 use Rattle.zone_list.proofs.FindingLaws.{list-refused, list-unknown, list-zones, list-counts, list-few, list-found}
 use borrow.Author.Needs.{needs}

@@ -1,7 +1,7 @@
 -- In a readable plan the tables tell which zone a cart wants and whom it points to.
-use Prim.Native.Nat.{ℕ, zero, suc, _+_, _*_, _≤_, _<_}
+use Prim.Native.Nat.{ℕ, zero, suc, _+_, _≤_, _<_}
 use mathlib.Core.Path.{_≡_, refl, sym, ap, _∙_}
-use mathlib.Core.Bool.{Bool, true, false, not, not-eq-not}
+use mathlib.Core.Bool.{Bool, false, not, not-eq-not}
 use mathlib.Core.List.{List, []}
 use native.Mathlib.Omega.{arith}
 use native.Mathlib.Decide.{decLt, decLe}
@@ -12,8 +12,8 @@ use Rattle.words.specs.Lists.{pick, entries}
 use Rattle.words.proofs.Entries.{length-entries, getD-entries, at-entry}
 use Rattle.sets.specs.Member.{has}
 use Rattle.moves.specs.System.{pos}
-use Rattle.routes.specs.Lists.{Named, firstOf}
-use Rattle.routes.specs.Crossing.{Crossing, route, steps, zone, Visits, HasLeft, leftAt}
+use Rattle.routes.specs.Lists.{firstOf}
+use Rattle.routes.specs.Crossing.{Crossing, route, steps, zone, Visits, leftAt}
 use Rattle.routes.specs.Plans.{listOf, pointsTo}
 use Rattle.routes.proofs.Moves.{left-says}
 use Rattle.sheet.specs.Valid.{Valid}

@@ -1,18 +1,17 @@
 -- The ring that the tables tell is the plan's.
-use Prim.Native.Nat.{ℕ, zero, suc, _+_, _*_, _≤_, _<_}
-use mathlib.Core.Path.{_≡_, refl, sym, ap, _∙_}
+use Prim.Native.Nat.{ℕ, zero, suc, _+_, _≤_, _<_}
+use mathlib.Core.Path.{_≡_, sym, ap, _∙_}
 use mathlib.Core.Bool.{Bool, true, false, not}
-use mathlib.Core.List.{List, []}
+use mathlib.Core.List.{List}
 use native.Mathlib.Omega.{arith}
 use native.Mathlib.Decide.{decLt}
-use lib.ListN.{length, getD}
-use lib.Dec.{ltb}
+use lib.ListN.{getD}
 use borrow.Author.Tests.{lt-ltb, le-ltb}
 use Rattle.words.specs.Lists.{pick, entries}
 use Rattle.sets.specs.Member.{has}
 use Rattle.moves.specs.System.{carts, pos}
 use Rattle.routes.specs.Lists.{firstOf}
-use Rattle.routes.specs.Crossing.{Crossing, zone}
+use Rattle.routes.specs.Crossing.{zone}
 use Rattle.routes.specs.Moves.{system}
 use Rattle.routes.specs.Plans.{pointsTo}
 use Rattle.sheet.specs.Valid.{Valid}
@@ -27,7 +26,6 @@ use Rattle.crossing.specs.Plans.{routesOf, listsOf, planCrossing}
 use Rattle.crossing.proofs.Tables.{carts-16}
 use Rattle.ring.specs.Ring.{ringBy, ringOf}
 use Rattle.ring.specs.Tables.{wantedIn, Wanting, pointIn, Listable, AllListable}
-use Rattle.ring.specs.declared.Ring.{Ring}
 use Rattle.ring.proofs.Same.{ring-same}
 use Rattle.judge.proofs.Pointing.{wanted-is, points-is}
 

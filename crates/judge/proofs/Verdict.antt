@@ -1,10 +1,9 @@
 -- Where the carts settle tells the verdict: all are out, or there is a lowest cart that is stuck.
 use Prim.Native.Nat.{ℕ, _≤_, _<_}
-use mathlib.Core.Path.{_≡_, refl, sym, ap, _∙_}
+use mathlib.Core.Path.{_≡_, ap, _∙_}
 use mathlib.Core.Logic.{_↔_}
 use mathlib.Core.Bool.{true, false, not-eq-not}
 use mathlib.Core.List.{List}
-use native.Mathlib.Decide.{decLt}
 use native.Mathlib.Omega.{arith}
 use lib.ListN.{getD}
 use lib.Seq.{ext-getD}
@@ -15,7 +14,6 @@ use Rattle.moves.specs.Runs.{AllComeOut, end}
 use Rattle.moves.proofs.Runs.{start-in-range, reaches-in-range}
 use Rattle.moves.proofs.Ends.{end-reached}
 use Rattle.moves.proofs.Out.{end-out}
-use Rattle.routes.specs.Lists.{allBelow}
 use Rattle.routes.specs.Crossing.{Crossing}
 use Rattle.routes.specs.Moves.{system, movesOf}
 use Rattle.routes.proofs.Places.{all-below-says}

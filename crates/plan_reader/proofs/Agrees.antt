@@ -9,16 +9,16 @@ use native.Mathlib.Decide.{decLt}
 use lib.Dec.{eqb}
 use lib.ListN.{length, getD}
 use borrow.Author.Tests.{eqb-true, not-true}
-use Rattle.words.specs.Lists.{pick, each}
+use Rattle.words.specs.Lists.{pick, each, table}
 use Rattle.words.specs.Checks.{Check, check, firstFailing}
 use Rattle.words.specs.declared.Outcome.{Outcome}
+use Rattle.words.proofs.Filling.{table-none, table-next}
 use Rattle.words.proofs.Tests.{and-both}
 use Rattle.fields.specs.Field.{fieldChecks}
 use Rattle.fields.specs.declared.Cursor.{Cursor}
 use Rattle.fields.proofs.TakingLaws.{taking-checks, pick-checks}
 use Rattle.sets.specs.Member.{has}
 use Rattle.sheet.specs.Valid.{Valid}
-use Rattle.sheet.specs.Reading.{table}
 use Rattle.sheet.specs.declared.Sheet.{Sheet}
 use Rattle.plan.specs.Layout.{countAt, countOf, cartAt, cartOf}
 use Rattle.plan.specs.Lists.{visits, visitors}
@@ -27,7 +27,6 @@ use Rattle.plan.specs.Reading.{planRefused, planDone}
 use Rattle.plan.specs.declared.Orders.{Orders}
 use Rattle.plan.specs.declared.PlanRead.{PlanRead}
 use Rattle.plan.proofs.Visitors.{visitors-most}
-use Rattle.reader.proofs.Tables.{table-none, table-put}
 use Rattle.lists.specs.Sets.{whoVisits, mayLead, withCart, firstLate}
 use Rattle.lists.specs.Scan.{Lists, countTaken, cartTaken, noLists, putCount, putCart, Scanned, onTaken, cartsFrom, listsFrom}
 use Rattle.lists.specs.declared.Taken.{Taken}
@@ -137,7 +136,7 @@ module _ (sheet : Sheet) (valid : Valid sheet) (p : List ℕ) where
       (rw (who-ones sheet z l)
       (taking-checks then Refused answer 15 p 1 (countAt p z) 19 (λ k. eqb k (visitors sheet z)) Got _ λ _ t.
       let few : countOf p z ≤ 16 = omega (arith, eqb-true (countOf p z) (visitors sheet z) t, visitors-most sheet z) in
-      rw (table-put 24 z (countOf p) l, start)
+      rw (table-next 24 (countOf p) z (countOf p z) _ l refl refl, start)
       (ap (λ (x : ℕ). whole (cartsFrom p (who sheet z) leads z (countOf p z) 0 x (soFar (z + 1) z 0 late) (record { at = cartAt p z 0 }) (listsFrom p visitorsOf leads n (z + 1)))) (seen-none p z)
       ∙ carts-agree z l few (countOf p z) 0 late (omega arith) h (λ k m. absurd (omega arith)) (listsFrom p visitorsOf leads n (z + 1)) (each n (z + 1) (listChecks sheet p) ++ last) λ end g.
       next end (lists-agree n (z + 1) end (omega arith) (late-zone answer sheet p z (countOf p z) end refl g)))))

@@ -1,36 +1,32 @@
 -- The one pass is the table's answer: each turn of a loop makes the checks of one zone, step or cart, in their order.
 use Prim.Native.Nat.{ℕ, zero, suc, _+_, _*_, _≤_, _<_}
 use mathlib.Core.Path.{_≡_, refl, sym, ap, _∙_}
-use mathlib.Core.Bool.{Bool, true, false, not, _&&_}
-use mathlib.Core.List.{List, [], _∷_, _++_, append-assoc}
+use mathlib.Core.List.{List, _∷_, _++_, append-assoc}
 use native.Mathlib.Omega.{arith}
 use native.Mathlib.Numerals.{add-one}
-use lib.Dec.{leb, ltb, eqb}
-use lib.ListN.{length, getD, set, replicate}
+use lib.Dec.{eqb}
+use lib.ListN.{length, set}
 use borrow.Author.Tests.{leb-true}
-use Rattle.words.specs.Lists.{pick, anyBelow, each}
-use Rattle.words.specs.Checks.{Check, check, refused, firstFailing}
-use Rattle.words.specs.declared.Outcome.{Outcome}
+use Rattle.words.specs.Lists.{each, table}
+use Rattle.words.specs.Checks.{Check, check, firstFailing}
 use Rattle.words.proofs.Any.{any-same}
+use Rattle.words.proofs.Filling.{table-none, table-next, table-used}
 use Rattle.words.proofs.Tests.{leb-says, and-says}
-use Rattle.fields.specs.Field.{value}
 use Rattle.fields.specs.declared.Cursor.{Cursor}
 use Rattle.fields.proofs.TakingLaws.{taking-checks, pick-checks, unless-checks}
 use Rattle.sheet.specs.Layout.{zoneCount, followAt, followOf, crossAt, crossOf, cartCountAt, cartCount, cartAt, laneAt, laneOf, arrivalAt, arrivalOf, stepCountAt, stepCount, zoneAt, zoneOf, passingAt, passingOf, travelAt, travelOf, endAt}
-use Rattle.sheet.specs.Checks.{field, isOne, isZoneCount, isGap, isCartCount, isLane, isArrival, isStepCount, isPassing, mostTravel, isNamedBefore, arrivesEarly, zoneChecks, stepChecks, cartChecks, laneChecks, sheetChecks}
-use Rattle.sheet.specs.Reading.{blank, sheetRefused, sheetDone, table, sheetOf, readSheet}
+use Rattle.sheet.specs.Checks.{field, isCartCount, isNamedBefore, arrivesEarly, zoneChecks, stepChecks, cartChecks, laneChecks, sheetChecks}
+use Rattle.sheet.specs.Reading.{blank, sheetRefused, sheetDone, sheetOf, readSheet}
 use Rattle.sheet.specs.declared.Sheet.{Sheet}
-use Rattle.sheet.proofs.Tables.{table-used}
 use Rattle.sheet.specs.declared.SheetRead.{SheetRead}
 use Rattle.cart.specs.Parts.{headAt, inRoute, stepAt}
-use Rattle.cart.specs.declared.CartHead.{CartHead}
 use Rattle.cart.specs.declared.Head.{Head}
 use Rattle.cart.specs.declared.Head.the-variants.{Refused as NoHead}
 use Rattle.cart.specs.declared.Step.{Step}
 use Rattle.cart.specs.declared.Step.the-variants.{Refused as NoStep}
 use Rattle.carts.specs.Scan.{putCart, putStep, early, lanesFrom, finish, onStep, onHead, stepsFrom, cartsFrom}
-use Rattle.reader.specs.Scan.{withZones, putZone, withCarts, countFrom, zonesFrom, scan}
-use Rattle.reader.proofs.Tables.{table-none, table-put, passed, passed-none, passed-at, passed-put, passed-cart, passed-all}
+use Rattle.reader.specs.Scan.{withZones, countFrom, zonesFrom, scan}
+use Rattle.reader.proofs.Tables.{passed, passed-none, passed-at, passed-put, passed-cart, passed-all}
 
 module _ (s : List ℕ) where
   -- the sheet when the gaps of z zones, the cart count, the heads of h carts, and the steps before step j of cart i are read
@@ -137,7 +133,7 @@ module _ (s : List ℕ) where
         taking-checks then NoHead done 1 s 4 (arrivalAt s i) 8 _ _ _ λ _ _.
         rw second
         (taking-checks then NoHead done 1 s 1 (stepCountAt s i) 9 _ _ _ λ _ k.
-        rw (third, table-put 16 i (laneOf s) below, table-put 16 i (arrivalOf s) below, table-put 16 i (stepCount s) below, table-put 16 i (arrivalAt s) below)
+        rw (third, table-next 16 (laneOf s) i (laneOf s i) _ below refl refl, table-next 16 (arrivalOf s) i (arrivalOf s i) _ below refl refl, table-next 16 (stepCount s) i (stepCount s i) _ below refl refl, table-next 16 (arrivalAt s) i (arrivalAt s i) _ below refl refl)
         (steps-agree i (stepCount s i) 0 below (and-says _ _ (leb-says 1 (stepCount s i)) (leb-says (stepCount s i) 8) .0 k .1) (omega arith) _ (each n (i + 1) (cartChecks s) ++ last) (next (carts-agree n (i + 1) (omega arith))))))
       where
         done : SheetRead
@@ -174,7 +170,7 @@ module _ (s : List ℕ) where
       simp append-assoc
       (taking-checks (λ r. r) sheetRefused (sheetDone (sheetOf s)) 1 s 2 (followAt z) 5 _ _ _ λ _ _.
       taking-checks (λ r. r) sheetRefused (sheetDone (sheetOf s)) 1 s 2 (crossAt z) 5 _ _ _ λ _ _.
-      rw (next, table-put 24 z (followOf s) below, table-put 24 z (crossOf s) below) (zones-agree n (z + 1) l (omega arith)))
+      rw (next, table-next 24 (followOf s) z (followOf s z) _ below refl refl, table-next 24 (crossOf s) z (crossOf s z) _ below refl refl) (zones-agree n (z + 1) l (omega arith)))
 
   pub scan-agrees : scan s ≡ readSheet s
   unfolding scan readSheet sheetChecks

@@ -10,7 +10,6 @@ use Rattle.words.proofs.Any.{any-more, any-found}
 use lib.ListN.{getD}
 use lib.Dec.{ltb, eqb}
 use mathlib.Core.Bool.{_&&_}
-use borrow.Author.Needs.{needs}
 use Rattle.carts.proofs.is_early.Statement.{statement}
 use Rattle.carts.proofs.is_early.Tie as tie
 

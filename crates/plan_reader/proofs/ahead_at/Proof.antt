@@ -2,7 +2,7 @@
 use Prim.Native.Nat.{_/_}
 use native.Mathlib.Omega.{arith}
 use borrow.Author.Tests.{lt-ltb, le-ltb}
-use Rattle.plan_reader.proofs.AheadLaws.{zone-known}
+use Rattle.plan_reader.proofs.ValidLaws.{zone-known}
 use Rattle.plan_reader.proofs.ahead_at.Statement.{statement}
 use Rattle.plan_reader.proofs.ahead_at.Tie as tie
 

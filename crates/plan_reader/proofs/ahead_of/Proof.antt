@@ -2,18 +2,20 @@
 use Prim.Native.Nat.{_-_, _≤_}
 use mathlib.Core.Path.{_≡_, _∙_}
 use native.Mathlib.Omega.{arith}
-use Rattle.plan_reader.proofs.AheadLaws.{aheadBelow, ahead-none, ahead-next, ahead-all}
+use Rattle.words.specs.Lists.{table}
+use Rattle.words.proofs.Filling.{table-none, table-next, table-all}
+use Rattle.plan_reader.specs.Scan.{aheadAt, aheadOf}
 use Rattle.plan_reader.proofs.ahead_of.Statement.{statement}
 use Rattle.plan_reader.proofs.ahead_of.Tie as tie
 
 abbrev Inv-loop : tie.InvT-loop
-Inv-loop steps zone before ahead₀ x₀ ahead x = (x ≤ 128) × (ahead ≡ aheadBelow steps zone before x)
+Inv-loop steps zone before ahead₀ x₀ ahead x = (x ≤ 128) × (ahead ≡ table 128 x (aheadAt steps zone before))
 
 abbrev μ-loop : tie.MeasureT-loop
 μ-loop steps zone before ahead₀ x₀ ahead x = 128 - x
 
 loop-holds : tie.Need-loop-holds Inv-loop μ-loop
-loop-holds c = (omega arith, c .pre .1 ∙ ahead-none _ _ _)
+loop-holds c = (omega arith, c .pre .1 ∙ table-none 128 _)
 
 ahead-at-requires : tie.Need-ahead-at-requires Inv-loop μ-loop
 ahead-at-requires c κs = (omega arith, c .before .before .pre .0)
@@ -31,10 +33,11 @@ loop-less : tie.Need-loop-less Inv-loop μ-loop
 loop-less c = omega arith
 
 loop-again : tie.Need-loop-again Inv-loop μ-loop
-loop-again c = (omega arith, ahead-next _ _ _ _ _ _ (omega arith) (c .before .before .loop .inv .1) (c .ahead-at .ensures))
+loop-again c = (omega arith, table-next 128 _ _ _ _ (omega arith) (c .ahead-at .ensures) (c .before .before .loop .inv .1))
 
 returns : tie.Need-returns Inv-loop μ-loop
-returns c = c .before .loop .inv .1 ∙ ahead-all _ _ _ _ (omega arith)
+unfolding aheadOf
+returns c = c .before .loop .inv .1 ∙ table-all 128 _ _ (omega arith)
 
 pub ahead-of-spec : {M : Type 1} → statement M
 ahead-of-spec =

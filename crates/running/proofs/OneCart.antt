@@ -2,8 +2,9 @@
 use Prim.Native.Nat.{ℕ, suc, _+_, _*_, _-_, _≤_, _<_}
 use mathlib.Core.Path.{_≡_, refl, sym, ap, _∙_}
 use mathlib.Core.Logic.{_↔_}
-use mathlib.Core.Bool.{Bool, true, false, true≢false}
+use mathlib.Core.Bool.{Bool, true, false, true≢false, false≢true}
 use mathlib.Core.List.{List}
+use native.Mathlib.Decide.{decLt}
 use native.Mathlib.Nat.{le-refl}
 use native.Mathlib.Omega.{arith}
 use lib.ListN.{length, getD, set, length-set}
@@ -21,7 +22,7 @@ use Rattle.entering.specs.Lanes.{LaneSets}
 use Rattle.entering.specs.Times.{clearOf, latest, Enterable}
 use Rattle.one_move.specs.Running.{ZoneLeft, CanGoOn, GoneOn, CanGoOut, Running}
 use Rattle.one_move.proofs.Steps.{steps-8, x-few, enter-says, x-enterable, first-moved, can-go-on, next-moved, out-may, can-go-out, out-moved}
-use Rattle.running.specs.Rounds.{Underway, Onward, Advanced}
+use Rattle.running.specs.Rounds.{Wants, Unheld, Underway, Onward, Advanced}
 use Rattle.running.proofs.Rounds.{place-most, here, underway-room, underway-turn}
 
 module _ (stepTable zoneTable aheadTable same arrival passing travel follow cross : List ℕ) where
@@ -59,12 +60,39 @@ module _ (stepTable zoneTable aheadTable same arrival passing travel follow cros
     pub stands-few : pos old c ≤ 9
     stands-few = place-most X G (on .running .sound) old (here X G old left leave enter order made on) c
 
+    -- no move made
+    onward-none : Onward X G old old left leave enter order c made made
+    onward-none = record { underway = on; no-fewer = le-refl made; none-made = λ _. refl; others = λ _ _. refl }
+
+    module _ (below : pos old c < getD stepTable c 0) where
+      step-asked : (8 * c + pos old c < 128) × (getD zoneTable (8 * c + pos old c) 0 < 24)
+      step-asked =
+          x-few stepTable zoneTable aheadTable same arrival passing travel follow cross old left leave enter (on .running) c l below (8 * c + pos old c) refl
+
+      -- before a zone that not all carts ahead have left
+      not-entered : ¬ (Within (getD aheadTable (8 * c + pos old c) 0) (getD left (getD zoneTable (8 * c + pos old c) 0) 0)) → ¬ (Permitted S old c)
+      not-entered n m =
+          false≢true
+          (enter-says stepTable zoneTable aheadTable same arrival passing travel follow cross old left leave enter (on .running) c l below
+          (8 * c + pos old c) refl false (λ e. absurd (false≢true e), λ w. absurd (n w)) .1 m)
+
+    pub wants-here : Wants stepTable zoneTable old c
+    wants-here = record { cart-16 = l; step-128 = λ below. step-asked below .0; zone-24 = λ below. step-asked below .1 }
+
+    pub held-here : ¬ (Unheld stepTable zoneTable aheadTable old left c)
+        → (pos old c ≤ getD stepTable c 0) × Advanced X G old old left leave enter order c made made
+    held-here n = go (decLt (pos old c) (getD stepTable c 0))
+      where
+        go : Dec (pos old c < getD stepTable c 0) → (pos old c ≤ getD stepTable c 0) × Advanced X G old old left leave enter order c made made
+        go (yes below) = (omega (arith, below), record { onward = onward-none; held-or-out = not-entered below (λ w. n (λ _. w)) })
+        go (no past) = absurd (n (λ below. absurd (past below)))
+
     pub advancing-start : NotOut S old c → Advancing old left leave enter order c made made (pos old c)
     advancing-start inside = record {
       cart-16 = l;
       some = omega (arith, some-steps, counted-here);
       not-past = omega (arith, counted-here, out-steps X c 0 some-steps);
-      onward = rw (set-getD old c 0) (record { underway = on; no-fewer = le-refl made; none-made = λ _. refl; others = λ _ _. refl });
+      onward = rw (set-getD old c 0) onward-none;
     }
       where
         some-steps : 0 < steps X c

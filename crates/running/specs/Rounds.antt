@@ -1,12 +1,12 @@
 -- Rounds of moves: one cart's, as far as it may go, and a turn of the carts that are not out.
-use Prim.Native.Nat.{ℕ, _≤_, _<_}
+use Prim.Native.Nat.{ℕ, _+_, _*_, _≤_, _<_}
 use mathlib.Core.Path.{_≡_}
 use mathlib.Core.Logic.{_↔_}
 use mathlib.Core.Bool.{true}
 use mathlib.Core.List.{List}
 use lib.ListN.{length, getD, take}
 use lib.Dec.{ltb}
-use Rattle.sets.specs.Member.{has}
+use Rattle.sets.specs.Member.{has, Within}
 use Rattle.sets.specs.Counting.{setBelow}
 use Rattle.moves.specs.System.{pos, start, sum}
 use Rattle.moves.specs.Moves.{NotOut, Permitted}
@@ -19,6 +19,18 @@ use Rattle.one_move.specs.Running.{Running}
 -- the set of those of the first n carts that have steps
 unfoldable pub presentSet : List ℕ → ℕ → ℕ
 presentSet steps n = setBelow n (λ c. ltb 0 (getD steps c 0))
+
+module _ (steps zone : List ℕ) where
+  -- cart c stands before a step over one of 24 zones, or before none
+  pub record Wants (at : List ℕ) (c : ℕ) : Type 0 where
+    pub cart-16 : c < 16
+    pub step-128 : pos at c < getD steps c 0 → 8 * c + pos at c < 128
+    pub zone-24 : pos at c < getD steps c 0 → getD zone (8 * c + pos at c) 0 < 24
+
+  -- if cart c stands before a step, all carts ahead have left its zone
+  abbrev pub Unheld : (ahead at left : List ℕ) (c : ℕ) → Type 0
+  Unheld ahead at left c =
+      pos at c < getD steps c 0 → Within (getD ahead (8 * c + pos at c) 0) (getD left (getD zone (8 * c + pos at c) 0) 0)
 
 module _ (X : Crossing) where
   -- `inside` is the set of the carts that are not out

@@ -5,6 +5,8 @@ use one_move::move_on;
 use one_move::move_out;
 use sets::carts;
 ghost use mathlib.Core.Path.{_≡_};
+ghost use mathlib.Core.Logic.{_↔_};
+ghost use mathlib.Core.Bool.{true};
 ghost use Prim.Native.Nat.{_<_};
 ghost use lib.ListN.{length, replicate};
 ghost use Rattle.moves.specs.Moves.{NotOut};
@@ -12,7 +14,7 @@ ghost use Rattle.routes.specs.Moves.{system};
 ghost use Rattle.crossing.specs.Tables.{crossingOf, givenOf};
 ghost use Rattle.crossing.specs.Sound.{Sound};
 ghost use Rattle.entering.specs.Lanes.{LaneSets};
-ghost use Rattle.running.specs.Rounds.{presentSet, InsideSet, Underway, Advanced, Swept};
+ghost use Rattle.running.specs.Rounds.{presentSet, InsideSet, Wants, Unheld, Underway, Advanced, Swept};
 ghost use Rattle.running.specs.Settled.{SettlesAs};
 
 // Cart c, which is not out, moves on as far as it may, and is stored in the table for each of its moves; answers how many moves are made in all.
@@ -92,6 +94,24 @@ fn advance<'a>(
     made + 1
 }
 
+// Whether cart c, which is not out, may move: all carts ahead have left the zone that it wants, or it wants none.
+fn may_advance<'a>(
+    steps: &'a [u8; 16],
+    zone: &'a [u8; 128],
+    ahead: &'a [u16; 128],
+    at: &[u8; 16],
+    left: &[u16; 24],
+    c: usize,
+) -> bool
+    requires { ⌜ Wants (now steps) (now zone) (now at) c ⌝ }
+    ensures { λ r. ⌜ (r ≡ true) ↔ Unheld (now (steps .entry)) (now (zone .entry)) (now (ahead .entry)) (now (at .entry)) (now (left .entry)) c ⌝ }
+{
+    if at[c] < steps[c] {
+        return may_enter(zone, ahead, left, 8 * c + at[c] as usize);
+    }
+    true
+}
+
 // The set of the carts that have steps.
 fn present(steps: &[u8; 16]) -> u16
     ensures { λ r. ⌜ r ≡ presentSet (now (steps .entry)) 16 ⌝ }
@@ -141,26 +161,28 @@ fn sweep<'a>(
     while 0 < turn {
         let c = carts::lowest(turn);
         turn = carts::rest(turn);
-        made = advance(
-            steps,
-            zone,
-            ahead,
-            same,
-            arrival,
-            passing,
-            travel,
-            follow,
-            cross,
-            at,
-            left,
-            leave,
-            enter,
-            order,
-            c,
-            made,
-        );
-        if steps[c] < at[c] {
-            still = carts::without(still, c);
+        if may_advance(steps, zone, ahead, at, left, c) {
+            made = advance(
+                steps,
+                zone,
+                ahead,
+                same,
+                arrival,
+                passing,
+                travel,
+                follow,
+                cross,
+                at,
+                left,
+                leave,
+                enter,
+                order,
+                c,
+                made,
+            );
+            if steps[c] < at[c] {
+                still = carts::without(still, c);
+            }
         }
     }
     if made == before {

@@ -5,19 +5,17 @@ use one_move::move_on;
 use one_move::move_out;
 use sets::carts;
 ghost use mathlib.Core.Path.{_≡_};
-ghost use mathlib.Core.Logic.{_↔_};
-ghost use mathlib.Core.Bool.{true};
 ghost use Prim.Native.Nat.{_<_};
 ghost use lib.ListN.{length, replicate};
-ghost use Rattle.moves.specs.Moves.{NotOut};
+ghost use Rattle.moves.specs.Moves.{Permitted};
 ghost use Rattle.routes.specs.Moves.{system};
 ghost use Rattle.crossing.specs.Tables.{crossingOf, givenOf};
 ghost use Rattle.crossing.specs.Sound.{Sound};
 ghost use Rattle.entering.specs.Lanes.{LaneSets};
-ghost use Rattle.running.specs.Rounds.{presentSet, InsideSet, Wants, Unheld, Underway, Advanced, Swept};
+ghost use Rattle.running.specs.Rounds.{presentSet, InsideSet, Underway, Advanced, Swept};
 ghost use Rattle.running.specs.Settled.{SettlesAs};
 
-// Cart c, which is not out, moves on as far as it may, and is stored in the table for each of its moves; answers how many moves are made in all.
+// Cart c, which may move, moves on as far as it may, and is stored in the table for each of its moves; answers how many moves are made in all.
 // `same` has for each cart the set of the carts on its lane, which stands for the lane.
 fn advance<'a>(
     steps: &'a [u8; 16],
@@ -37,7 +35,7 @@ fn advance<'a>(
     c: usize,
     before: usize,
 ) -> usize
-    requires { ⌜ Underway (crossingOf (now steps) (now zone) (now ahead)) (givenOf (now same) (now arrival) (now passing) (now travel) (now follow) (now cross)) (now at) (now left) (now leave) (now enter) (now order) before × (c < 16) × NotOut (system (crossingOf (now steps) (now zone) (now ahead))) (now at) c × LaneSets (now same) ⌝ }
+    requires { ⌜ Underway (crossingOf (now steps) (now zone) (now ahead)) (givenOf (now same) (now arrival) (now passing) (now travel) (now follow) (now cross)) (now at) (now left) (now leave) (now enter) (now order) before × (c < 16) × Permitted (system (crossingOf (now steps) (now zone) (now ahead))) (now at) c × LaneSets (now same) ⌝ }
     ensures { λ r. ⌜ Advanced (crossingOf (now (steps .entry)) (now (zone .entry)) (now (ahead .entry))) (givenOf (now (same .entry)) (now (arrival .entry)) (now (passing .entry)) (now (travel .entry)) (now (follow .entry)) (now (cross .entry))) (now (at .entry)) (now (at .exit)) (now (left .exit)) (now (leave .exit)) (now (enter .exit)) (now (order .exit)) c before r ⌝ }
 {
     let k = steps[c] as usize;
@@ -45,9 +43,6 @@ fn advance<'a>(
     let mut made = before;
     // From the lane no zone is left.
     if p == 0 {
-        if !may_enter(zone, ahead, left, 8 * c) {
-            return made;
-        }
         order[made] = c as u8;
         made += 1;
         enter_zone(
@@ -92,24 +87,6 @@ fn advance<'a>(
     move_out(zone, passing, left, leave, enter, c, 8 * c + k - 1);
     at[c] = (k + 1) as u8;
     made + 1
-}
-
-// Whether cart c, which is not out, may move: all carts ahead have left the zone that it wants, or it wants none.
-fn may_advance<'a>(
-    steps: &'a [u8; 16],
-    zone: &'a [u8; 128],
-    ahead: &'a [u16; 128],
-    at: &[u8; 16],
-    left: &[u16; 24],
-    c: usize,
-) -> bool
-    requires { ⌜ Wants (now steps) (now zone) (now at) c ⌝ }
-    ensures { λ r. ⌜ (r ≡ true) ↔ Unheld (now (steps .entry)) (now (zone .entry)) (now (ahead .entry)) (now (at .entry)) (now (left .entry)) c ⌝ }
-{
-    if at[c] < steps[c] {
-        return may_enter(zone, ahead, left, 8 * c + at[c] as usize);
-    }
-    true
 }
 
 // The set of the carts that have steps.
@@ -161,7 +138,7 @@ fn sweep<'a>(
     while 0 < turn {
         let c = carts::lowest(turn);
         turn = carts::rest(turn);
-        if may_advance(steps, zone, ahead, at, left, c) {
+        if may_enter(zone, ahead, left, 8 * c + at[c] as usize) {
             made = advance(
                 steps,
                 zone,

@@ -1,14 +1,8 @@
+use entering::later;
 ghost use mathlib.Core.Path.{_≡_};
-ghost use Prim.Native.Nat.{_<_, max};
+ghost use Prim.Native.Nat.{_<_};
 ghost use Rattle.times.specs.Times.{largest};
 ghost use Rattle.finish.specs.Finish.{Leavable, lastLeaving};
-
-// The later of two times.
-fn later(a: u32, b: u32) -> u32
-    ensures { λ r. ⌜ r ≡ max a b ⌝ }
-{
-    if a < b { b } else { a }
-}
 
 // When cart c leaves its last zone; 0 for an absent cart.
 fn last_leaving<'a>(

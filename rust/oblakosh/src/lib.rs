@@ -199,12 +199,14 @@ fn answered<T>(outcome: Outcome, answer: T) -> Result<T, Refusal> {
 
 /// The sheet that the bytes say, or 1 to 14.
 pub fn read_sheet(sheet: &[u8]) -> Result<Sheet, Refusal> {
+    // SAFETY: a slice is memory of its length that may be read, and nothing is written.
     let read = unsafe { linked::oblakosh_read_sheet(sheet.as_ptr(), sheet.len()) };
     answered(read.outcome, read.sheet)
 }
 
 /// The sheet, and the plan's orders for it, or 1 to 21.
 pub fn read_plan(sheet: &[u8], plan: &[u8]) -> Result<(Sheet, Orders), Refusal> {
+    // SAFETY: a slice is memory of its length that may be read, and nothing is written.
     let read = unsafe {
         linked::oblakosh_read_plan(sheet.as_ptr(), sheet.len(), plan.as_ptr(), plan.len())
     };
@@ -214,6 +216,7 @@ pub fn read_plan(sheet: &[u8], plan: &[u8]) -> Result<(Sheet, Orders), Refusal> 
 /// The verdict, or 1 to 22, or 28 if fewer than [`WORDS`] words are lent. Of an accepted plan, word 8 × cart + step then
 /// holds the entering time, unused words of the first 128 are 0, and words beyond are untouched.
 pub fn judge(sheet: &[u8], plan: &[u8], words: &mut [u32]) -> Result<Judged, NotJudged> {
+    // SAFETY: a slice is memory of its length that may be read; `words` may be written too, and overlaps nothing else.
     let judged = unsafe {
         linked::oblakosh_judge(
             sheet.as_ptr(),
@@ -238,6 +241,7 @@ pub fn judge(sheet: &[u8], plan: &[u8], words: &mut [u32]) -> Result<Judged, Not
 /// shorter than the plan. Bytes beyond the plan are untouched.
 #[cfg(feature = "controller")]
 pub fn write_again(sheet: &[u8], plan: &[u8], room: &mut [u8]) -> Result<usize, Refusal> {
+    // SAFETY: a slice is memory of its length that may be read; `room` may be written too, and overlaps nothing else.
     let wrote = unsafe {
         linked::oblakosh_write_again(
             sheet.as_ptr(),
@@ -265,6 +269,7 @@ pub struct Planned {
 /// to 14, or 28 if the room is shorter than the plan. Bytes beyond the plan are untouched.
 #[cfg(feature = "controller")]
 pub fn plan(sheet: &[u8], room: &mut [u8]) -> Result<Planned, Refusal> {
+    // SAFETY: a slice is memory of its length that may be read; `room` may be written too, and overlaps nothing else.
     let planned = unsafe {
         linked::oblakosh_plan(sheet.as_ptr(), sheet.len(), room.as_mut_ptr(), room.len())
     };
@@ -278,6 +283,7 @@ pub fn plan(sheet: &[u8], room: &mut [u8]) -> Result<Planned, Refusal> {
 /// The zone's passing list, first through first, as the very part of the plan lent; or 1 to 21, or 27.
 #[cfg(feature = "controller")]
 pub fn passing_list<'p>(sheet: &[u8], plan: &'p [u8], zone: usize) -> Result<&'p [u8], Refusal> {
+    // SAFETY: a slice is memory of its length that may be read, and nothing is written.
     let found = unsafe {
         linked::oblakosh_find_list(sheet.as_ptr(), sheet.len(), plan.as_ptr(), plan.len(), zone)
     };
@@ -299,6 +305,7 @@ fn moved(asked: linked::Asked) -> Result<Moved, NotMoved> {
 /// What [`move_cart`] would answer, with the record left as it is.
 #[cfg(feature = "controller")]
 pub fn ask(sheet: &[u8], plan: &[u8], record: Record, cart: usize) -> Result<Moved, NotMoved> {
+    // SAFETY: a slice is memory of its length that may be read; the record goes by value, and nothing is written.
     moved(unsafe {
         linked::oblakosh_ask(
             sheet.as_ptr(),
@@ -320,6 +327,7 @@ pub fn move_cart(
     record: &mut Record,
     cart: usize,
 ) -> Result<Moved, NotMoved> {
+    // SAFETY: a slice is memory of its length that may be read; `record` is one record that may be written, and overlaps nothing else.
     moved(unsafe {
         linked::oblakosh_move_cart(
             sheet.as_ptr(),

@@ -50,9 +50,13 @@ fn a_sheet_is_planned_and_the_plan_accepted() {
 
 #[test]
 fn a_sheet_that_is_refused_has_no_plan() {
-    for (sheet, length, number, place) in [(&[][..], 12, 1, 0), (&[2][..], 12, 2, 0), (S, 9, 28, 0)] {
+    for (sheet, length, number, place) in [(&[][..], 12, 1, 0), (&[2][..], 12, 2, 0), (S, 9, 28, 0)]
+    {
         let mut room = [0xA5; 12];
-        assert_eq!(plan(sheet, &mut room[..length]), Err(Refusal { number, place }));
+        assert_eq!(
+            plan(sheet, &mut room[..length]),
+            Err(Refusal { number, place })
+        );
         assert_eq!(room, [0xA5; 12]);
     }
 }

@@ -5,7 +5,8 @@
      liboblakosh.a      these and every other function below, but oblakosh_move_cart
      libmoving.a        oblakosh_move_cart
    A simulator links liblinked_judge.a alone, a controller liboblakosh.a and libmoving.a, in either order: no name stands in
-   both. Of the C library they need memcpy and memset.
+   both. liblinked_judge.a and liboblakosh.a are not linked into one program: they export the same three names, and
+   liboblakosh.a has all that the other has. Of the C library they need memcpy and memset.
 
    What is proved. Every function takes every byte string and number, ends, and answers what document 01 says: done, or
    the first check that fails. On refusal every other part of the answer is 0, but for the ring that comes with 22 and the
@@ -201,24 +202,73 @@ oblakosh_asked oblakosh_ask(const uint8_t *sheet, size_t sheet_length, const uin
 oblakosh_asked oblakosh_move_cart(const uint8_t *sheet, size_t sheet_length, const uint8_t *plan, size_t plan_length,
                                   oblakosh_record *record, size_t cart);
 
-/* ---- the layout that the libraries have */
+/* ---- the layout that the libraries have: the size of each struct, and the place and size of each field, in bytes */
 
 #if defined(__cplusplus) && __cplusplus >= 201103L
-#define OBLAKOSH_HAS(type, bytes) static_assert(sizeof(type) == (bytes), #type)
+#define OBLAKOSH_HOLDS static_assert
 #elif defined(__STDC_VERSION__) && __STDC_VERSION__ >= 201112L
-#define OBLAKOSH_HAS(type, bytes) _Static_assert(sizeof(type) == (bytes), #type)
+#define OBLAKOSH_HOLDS _Static_assert
 #endif
-#ifdef OBLAKOSH_HAS
-OBLAKOSH_HAS(oblakosh_outcome, 16);
-OBLAKOSH_HAS(oblakosh_sheet_read, 864);
-OBLAKOSH_HAS(oblakosh_plan_read, 1528);
-OBLAKOSH_HAS(oblakosh_judged, 64);
-OBLAKOSH_HAS(oblakosh_plan_written, 24);
-OBLAKOSH_HAS(oblakosh_planned, 32);
-OBLAKOSH_HAS(oblakosh_list_found, 32);
-OBLAKOSH_HAS(oblakosh_record, 20);
-OBLAKOSH_HAS(oblakosh_asked, 32);
-#undef OBLAKOSH_HAS
+#ifdef OBLAKOSH_HOLDS
+#define OBLAKOSH_STRUCT(type, bytes) OBLAKOSH_HOLDS(sizeof(type) == (bytes), #type)
+#define OBLAKOSH_FIELD(type, field, place, bytes) \
+    OBLAKOSH_HOLDS(offsetof(type, field) == (place) && sizeof(((type *)0)->field) == (bytes), #type "." #field)
+OBLAKOSH_STRUCT(oblakosh_outcome, 16);
+OBLAKOSH_FIELD(oblakosh_outcome, number, 0, 4);
+OBLAKOSH_FIELD(oblakosh_outcome, place, 8, 8);
+OBLAKOSH_STRUCT(oblakosh_sheet, 848);
+OBLAKOSH_FIELD(oblakosh_sheet, zones, 0, 8);
+OBLAKOSH_FIELD(oblakosh_sheet, follow, 8, 48);
+OBLAKOSH_FIELD(oblakosh_sheet, cross, 56, 48);
+OBLAKOSH_FIELD(oblakosh_sheet, carts, 104, 8);
+OBLAKOSH_FIELD(oblakosh_sheet, lane, 112, 16);
+OBLAKOSH_FIELD(oblakosh_sheet, arrival, 128, 64);
+OBLAKOSH_FIELD(oblakosh_sheet, steps, 192, 16);
+OBLAKOSH_FIELD(oblakosh_sheet, zone, 208, 128);
+OBLAKOSH_FIELD(oblakosh_sheet, passing, 336, 256);
+OBLAKOSH_FIELD(oblakosh_sheet, travel, 592, 256);
+OBLAKOSH_STRUCT(oblakosh_sheet_read, 864);
+OBLAKOSH_FIELD(oblakosh_sheet_read, outcome, 0, 16);
+OBLAKOSH_FIELD(oblakosh_sheet_read, sheet, 16, 848);
+OBLAKOSH_STRUCT(oblakosh_orders, 664);
+OBLAKOSH_FIELD(oblakosh_orders, count, 0, 24);
+OBLAKOSH_FIELD(oblakosh_orders, list, 24, 384);
+OBLAKOSH_FIELD(oblakosh_orders, ahead, 408, 256);
+OBLAKOSH_STRUCT(oblakosh_plan_read, 1528);
+OBLAKOSH_FIELD(oblakosh_plan_read, outcome, 0, 16);
+OBLAKOSH_FIELD(oblakosh_plan_read, sheet, 16, 848);
+OBLAKOSH_FIELD(oblakosh_plan_read, orders, 864, 664);
+OBLAKOSH_STRUCT(oblakosh_ring, 40);
+OBLAKOSH_FIELD(oblakosh_ring, length, 0, 8);
+OBLAKOSH_FIELD(oblakosh_ring, cart, 8, 16);
+OBLAKOSH_FIELD(oblakosh_ring, zone, 24, 16);
+OBLAKOSH_STRUCT(oblakosh_judged, 64);
+OBLAKOSH_FIELD(oblakosh_judged, outcome, 0, 16);
+OBLAKOSH_FIELD(oblakosh_judged, finish, 16, 4);
+OBLAKOSH_FIELD(oblakosh_judged, moves, 20, 4);
+OBLAKOSH_FIELD(oblakosh_judged, ring, 24, 40);
+OBLAKOSH_STRUCT(oblakosh_plan_written, 24);
+OBLAKOSH_FIELD(oblakosh_plan_written, outcome, 0, 16);
+OBLAKOSH_FIELD(oblakosh_plan_written, length, 16, 8);
+OBLAKOSH_STRUCT(oblakosh_planned, 32);
+OBLAKOSH_FIELD(oblakosh_planned, outcome, 0, 16);
+OBLAKOSH_FIELD(oblakosh_planned, length, 16, 8);
+OBLAKOSH_FIELD(oblakosh_planned, finish, 24, 4);
+OBLAKOSH_STRUCT(oblakosh_list_found, 32);
+OBLAKOSH_FIELD(oblakosh_list_found, outcome, 0, 16);
+OBLAKOSH_FIELD(oblakosh_list_found, start, 16, 8);
+OBLAKOSH_FIELD(oblakosh_list_found, length, 24, 8);
+OBLAKOSH_STRUCT(oblakosh_record, 20);
+OBLAKOSH_FIELD(oblakosh_record, position, 0, 16);
+OBLAKOSH_FIELD(oblakosh_record, made, 16, 4);
+OBLAKOSH_STRUCT(oblakosh_asked, 32);
+OBLAKOSH_FIELD(oblakosh_asked, outcome, 0, 16);
+OBLAKOSH_FIELD(oblakosh_asked, position, 16, 1);
+OBLAKOSH_FIELD(oblakosh_asked, made, 20, 4);
+OBLAKOSH_FIELD(oblakosh_asked, ahead, 24, 4);
+#undef OBLAKOSH_FIELD
+#undef OBLAKOSH_STRUCT
+#undef OBLAKOSH_HOLDS
 #endif
 
 #ifdef __cplusplus

@@ -1,8 +1,8 @@
-//! include/oblakosh.h once more. Nothing holds these declarations to the libraries but the sizes below and the tests.
+//! include/oblakosh.h once more, with the same layout below: `compare/link/run` holds the two to each other and to the libraries.
 #[cfg(feature = "controller")]
 use crate::Record;
 use crate::{Orders, Ring, Sheet};
-use std::mem::size_of;
+use std::mem::{offset_of, size_of};
 
 #[repr(C)]
 #[derive(Clone, Copy)]
@@ -123,13 +123,38 @@ extern "C" {
     ) -> Asked;
 }
 
-const _: () = assert!(size_of::<Outcome>() == 16);
-const _: () = assert!(size_of::<SheetRead>() == 864);
-const _: () = assert!(size_of::<PlanRead>() == 1528);
-const _: () = assert!(size_of::<Judged>() == 64);
+/// The size of the field that such a function borrows.
+const fn size_of_field<T, F>(_: fn(&T) -> &F) -> usize {
+    size_of::<F>()
+}
+
+/// Holds a struct to its size and each field to its place and size, in bytes. With a field left out it does not compile.
+macro_rules! layout {
+    ($of:ident $size:literal: $($field:ident $place:literal $bytes:literal),+) => {
+        const _: () = {
+            assert!(size_of::<$of>() == $size);
+            $(assert!(offset_of!($of, $field) == $place);)+
+            $(assert!(size_of_field(|whole: &$of| &whole.$field) == $bytes);)+
+            const fn _has_no_other_field($of { $($field: _),+ }: &$of) {}
+        };
+    };
+}
+
+layout!(Outcome 16: number 0 4, place 8 8);
+layout!(Sheet 848: zones 0 8, follow 8 48, cross 56 48, carts 104 8, lane 112 16, arrival 128 64, steps 192 16, zone 208 128,
+    passing 336 256, travel 592 256);
+layout!(SheetRead 864: outcome 0 16, sheet 16 848);
+layout!(Orders 664: count 0 24, list 24 384, ahead 408 256);
+layout!(PlanRead 1528: outcome 0 16, sheet 16 848, orders 864 664);
+layout!(Ring 40: length 0 8, cart 8 16, zone 24 16);
+layout!(Judged 64: outcome 0 16, finish 16 4, moves 20 4, ring 24 40);
 #[cfg(feature = "controller")]
-const _: () = assert!(size_of::<PlanWritten>() == 24 && size_of::<Planned>() == 32);
+layout!(PlanWritten 24: outcome 0 16, length 16 8);
 #[cfg(feature = "controller")]
-const _: () = assert!(size_of::<ListFound>() == 32);
+layout!(Planned 32: outcome 0 16, length 16 8, finish 24 4);
 #[cfg(feature = "controller")]
-const _: () = assert!(size_of::<Record>() == 20 && size_of::<Asked>() == 32);
+layout!(ListFound 32: outcome 0 16, start 16 8, length 24 8);
+#[cfg(feature = "controller")]
+layout!(Record 20: position 0 16, made 16 4);
+#[cfg(feature = "controller")]
+layout!(Asked 32: outcome 0 16, position 16 1, made 20 4, ahead 24 4);

@@ -26,7 +26,7 @@ use Rattle.routes.specs.Orders.{OnlyVisitors}
 use Rattle.routes.proofs.Moves.{out-steps, meetable}
 use Rattle.routes.proofs.Plans.{plan-visitors}
 use Rattle.graph.specs.Graph.{Cyclic}
-use Rattle.graph.proofs.Agrees.{graph-locked, graph-accepts}
+use Rattle.graph.proofs.Agrees.{graph-locked, graph-accepts, graph-agrees}
 use Rattle.times.specs.Times.{Given, finish, EnteringTimes, Ranged}
 use Rattle.times.proofs.Entered.{entering-same}
 use Rattle.times.proofs.Times.{times-least}
@@ -106,6 +106,7 @@ module _ (s p : List ℕ) where
             let out : isOut (sheetOf s) (ordersRead s p) ≡ true = not-eq-not {b = true} .0 (λ e. acyclic (locked-cyclic readable e)) in
             number-is ∙ ap (λ (x : Judged). x .outcome .number) (judge-accepted s p readable out room long),
       );
+      of-moves = λ readable. graph-agrees _ _ (full readable);
     }
 
   -- the words hold the times that judging works out, and these are the only ones

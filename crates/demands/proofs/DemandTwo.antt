@@ -43,6 +43,7 @@ use Rattle.sheet.proofs.Accepted.{accepted-valid}
 use Rattle.plan.specs.Reading.{readPlan}
 use Rattle.plan.specs.Valid.{planLength}
 use Rattle.plan.specs.Written.{written}
+use Rattle.plan.specs.declared.Orders.{Orders}
 use Rattle.plan.specs.declared.PlanRead.{PlanRead}
 use Rattle.plan.proofs.Passing.{PlanPasses, reading-says, read-passes, passes-read}
 use Rattle.plan.proofs.Readable.{readable-whole, readable-length, said-sheet, said-valid}
@@ -50,8 +51,8 @@ use Rattle.plan.proofs.RoundTrip.{written-readable}
 use Rattle.plan_writer.specs.Writing.{writingChecks, notWritten, wrote, writeAgain, roomAfter}
 use Rattle.plan_writer.specs.declared.PlanWritten.{PlanWritten}
 use Rattle.plan_writer.proofs.SameBytes.{same-bytes}
-use Rattle.crossing.specs.Tables.{crossingOf}
-use Rattle.crossing.specs.Plans.{routesOf, listsOf}
+use Rattle.crossing.specs.Tables.{crossingOf, sheetGiven}
+use Rattle.crossing.specs.Plans.{routesOf, listsOf, planCrossing}
 use Rattle.crossing.proofs.Tables.{step-below}
 use Rattle.crossing.proofs.Plans.{plan-complete, plan-sound}
 use Rattle.entering.specs.Times.{timesOf}
@@ -72,6 +73,18 @@ pos-sum : (s : List ℕ) (c : ℕ) → pos s c ≤ sum s
 pos-sum [] c = omega arith
 pos-sum (x ∷ s) zero = omega arith
 pos-sum (x ∷ s) (suc c) = omega (arith, pos-sum s c)
+
+-- "0 with no carts": there are no steps then, so no move that a step could be of, and nothing is left
+module _ (sheet : Sheet) (v : Valid sheet) (none : sheet .carts ≡ 0) where
+  no-steps : sum (sheet .steps) ≡ 0
+  no-steps = omega (arith, sum-most (sheet .steps) 0 (λ c. omega (arith, v .unused .no-steps c (omega (arith, none)))))
+
+  pub finish-no-carts : (orders : Orders) (t : ℕ → ℕ → ℕ) → finish (planCrossing sheet orders) (sheetGiven sheet) t ≡ 0
+  finish-no-carts orders t =
+      let X = planCrossing sheet orders in
+      let most = finish-most X (sheetGiven sheet) t 0 λ c j h.
+      absurd (omega (arith, out-steps X c j h, pos-sum (system X .out) c, moves-are sheet orders v, no-steps, none)) in
+      omega (arith, most)
 
 module _ (s p : List ℕ) where
   abbrev X : Crossing
@@ -157,18 +170,6 @@ module _ (s p : List ℕ) where
         ∙ entering-same X G only judgedTime (timesOf after) (system X .out) (λ d k _ l. sym (word-is d k l)) c j (omega (arith, reached)) h
         (λ d l. meetable X only c j d (omega (arith, reached)) l)
 
-    -- where there are no carts there are no steps, so no move that a step could be of, and nothing is left
-    no-steps : sheetOf s .carts ≡ 0 → sum (sheetOf s .steps) ≡ 0
-    no-steps none = let v = said-sheet s p readable in
-        omega (arith, sum-most (sheetOf s .steps) 0 (λ c. omega (arith, v .unused .no-steps c (omega (arith, none)))))
-
-    no-finish : sheetOf s .carts ≡ 0 → finish X G (timesOf after) ≡ 0
-    no-finish none =
-        let moves = moves-are (sheetOf s) (ordersRead s p) (said-sheet s p readable) in
-        let most = finish-most X G (timesOf after) 0 λ c j h.
-        absurd (omega (arith, out-steps X c j h, pos-sum (system X .out) c, moves, no-steps none, none)) in
-        omega (arith, most)
-
     -- "Entering times are those of the paper's equations, and are the earliest that its waiting rules allow."
     times-published : (r : Judged) → r ≡ judged (sheetOf s) (ordersRead s p) → TimesTold s p r after
     times-published r e =
@@ -181,7 +182,7 @@ module _ (s p : List ℕ) where
           last = last;
           bound = omega (arith, last, finish-bound X G only all (timesOf after) told ranged);
           counted = counted;
-          no-carts = λ none. (last ∙ no-finish none, omega (arith, counted, no-steps none));
+          no-carts = λ none. let v = said-sheet s p readable in (last ∙ finish-no-carts (sheetOf s) v none (ordersRead s p) (timesOf after), omega (arith, counted, no-steps (sheetOf s) v none));
         }
       where
         counted : r .moves ≡ sum (sheetOf s .steps) + sheetOf s .carts

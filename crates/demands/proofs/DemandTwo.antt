@@ -236,37 +236,37 @@ module _ (s : List ℕ) where
       read : readSheet s ≡ sheetDone sheet
       read = planning-passes (length room) (sym told-number ∙ ok) .0
 
-      accepted-sheet : readSheet s .outcome .number ≡ 0
-      accepted-sheet = ap (λ (x : SheetRead). x .outcome .number) read
+      sheet-accepted : readSheet s .outcome .number ≡ 0
+      sheet-accepted = ap (λ (x : SheetRead). x .outcome .number) read
 
       valid : Valid sheet
-      valid = rw read at (accepted-valid s accepted-sheet)
+      valid = rw read at (accepted-valid s sheet-accepted)
 
       fits : planLength sheet ≤ length room
       fits = planning-passes (length room) (sym told-number ∙ ok) .1
 
-      answer-is : r ≡ planned sheet
-      answer-is = is ∙ planning-done accepted-sheet (length room) fits
+      planned-is : r ≡ planned sheet
+      planned-is = is ∙ planning-done sheet-accepted (length room) fits
 
       -- what stands at the start of the room
       plan-is : take (r .length) after ≡ written (sheet .zones) (plannedOrders sheet)
       unfolding planned
       plan-is =
-          ap (λ (x : Planned). take (x .length) after) answer-is
-          ∙ ap (take (planLength sheet)) (holds ∙ room-done accepted-sheet room fits)
+          ap (λ (x : Planned). take (x .length) after) planned-is
+          ∙ ap (take (planLength sheet)) (holds ∙ room-done sheet-accepted room fits)
           ∙ take-at (written (sheet .zones) (plannedOrders sheet)) (drop (planLength sheet) room) (planLength sheet) (planned-length sheet valid)
 
     pub planned-rightly : PlannedRightly s room r after
     planned-rightly = record {
       answers = (
-        λ ok. (accepted-sheet ok, fits ok),
+        λ ok. (sheet-accepted ok, fits ok),
         λ (accepted, l). told-number ∙ ap (λ (x : Planned). x .outcome .number) (planning-done accepted (length room) l) ∙ planned-outcome,
       );
       by-the-rule = λ ok. ap (readPlan s) (plan-is ok) ∙ planned-read sheet (valid ok) s (read ok);
       not-locked = λ ok words l.
           let judged-is = ap (λ (p : List ℕ). judge s p words) (plan-is ok) ∙ planned-judged sheet (valid ok) s (read ok) words l in (
             ap (λ (x : Judged). x .outcome .number) judged-is,
-            ap (λ (x : Judged). x .finish) judged-is ∙ sym (planned-finish sheet (valid ok)) ∙ ap (λ (x : Planned). x .finish) (sym (answer-is ok)),
+            ap (λ (x : Judged). x .finish) judged-is ∙ sym (planned-finish sheet (valid ok)) ∙ ap (λ (x : Planned). x .finish) (sym (planned-is ok)),
           );
     }
 

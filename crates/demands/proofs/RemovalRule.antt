@@ -1,10 +1,9 @@
 -- The removal rule's test is of a cycle: the orders present are of visitors only, so that carts that do not come out wait round one.
 -- And its levels: each cut halves a group, so that below the fourth level a group has one cart and no pair.
-use Prim.Native.Nat.{ℕ, zero, suc, _+_, _-_, _/_, _≤_, _<_}
-use mathlib.Core.Path.{_≡_, refl, sym, ap, _∙_}
+use Prim.Native.Nat.{ℕ, zero, suc, _+_, _/_, _≤_, _<_}
+use mathlib.Core.Path.{_≡_, sym, ap, _∙_}
 use mathlib.Core.Bool.{true, false, true≢false, not-eq-not}
-use mathlib.Core.Option.{Option, none, some}
-use mathlib.Core.List.{List, []}
+use mathlib.Core.List.{[]}
 use native.Mathlib.Decide.{decLt}
 use native.Mathlib.Omega.{arith}
 use Rattle.moves.proofs.Cycles.{locked-iff-cycle}
@@ -12,16 +11,15 @@ use Rattle.routes.specs.Moves.{system}
 use Rattle.routes.proofs.Moves.{meetable}
 use Rattle.sheet.specs.Valid.{Valid}
 use Rattle.sheet.specs.declared.Sheet.{Sheet}
-use Rattle.removal.specs.Pairs.{Unplanned, Order, rank}
+use Rattle.removal.specs.Pairs.{Unplanned, rank}
 use Rattle.removal.specs.Present.{present}
-use Rattle.removal.specs.Running.{isOut}
-use Rattle.removal.specs.Removal.{middle, trial, solved, decisions}
+use Rattle.removal.specs.Removal.{decisions}
 use Rattle.removal.specs.Solved.{PairIn}
 use Rattle.removal.proofs.Ranks.{rank-injective}
 use Rattle.removal.proofs.Pairs.{pair-says}
 use Rattle.removal.proofs.Present.{present-visitors}
 use Rattle.removal.proofs.Running.{out-says}
-use Rattle.removal.proofs.Solved.{one-tried, failed-many, solved-some}
+use Rattle.removal.proofs.Levels.{levels-suffice}
 use Rattle.planner.specs.Planning.{unplanned}
 use Rattle.demands.specs.DemandTwo.{TestsForCycle, Group, whole, lower, upper, FourLevels}
 
@@ -55,30 +53,6 @@ most-one (suc level) h = go (decLt 4 level) (most-one level)
     go (no n) less = let last : level ≡ 4 = omega (arith, n) in rw last (omega arith)
 
 module _ (U : Unplanned) where
-  -- a group that so many levels of cuts bring down to one rank
-  abbrev reach : ℕ → ℕ
-  reach zero = 1
-  reach (suc levels) = reach levels + reach levels
-
-  -- and then no depth beyond them matters
-  levels-suffice : (levels depth low high : ℕ) (decided : List Order) → high ≤ low + reach levels → high - low < depth
-      → solved U depth low high decided ≡ solved U levels low high decided
-  unfolding solved
-  levels-suffice zero depth low high decided small h = solved-some U low high decided decided (one-tried U low high decided (omega arith)) depth h
-  levels-suffice (suc levels) zero low high decided small h = absurd (omega arith)
-  levels-suffice (suc levels) (suc depth) low high decided small h = go (trial U low high decided) refl (λ l m s. levels-suffice levels depth l m s)
-    where
-      go : (t : Option (List Order)) → trial U low high decided ≡ t
-          → ((l m : ℕ) (s : List Order) → m ≤ l + reach levels → m - l < depth → solved U depth l m s ≡ solved U levels l m s)
-          → _≡_ {A = List Order}
-          (elim t [ some all ↦ all | none ↦ solved U depth (middle low high) high (solved U depth low (middle low high) decided) ])
-          (elim t [ some all ↦ all | none ↦ solved U levels (middle low high) high (solved U levels low (middle low high) decided) ])
-      go (some all) e rest = refl
-      go none e rest =
-          let many = failed-many U low high decided e in
-          rest (middle low high) high (solved U depth low (middle low high) decided) (omega arith) (omega arith)
-          ∙ ap (solved U levels (middle low high) high) (rest low (middle low high) decided (omega arith) (omega arith))
-
   pairs-above : U .carts ≤ 16 → {level low high : ℕ} → Group (U .carts) level low high
       → (z d c : ℕ) → d < U .carts → c < U .carts → PairIn U low high z d c → level ≤ 4
   pairs-above few {level} {low} {high} group z d c l m pair = go (decLt 4 level)

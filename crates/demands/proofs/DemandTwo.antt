@@ -1,53 +1,58 @@
 -- Demand 2, a theorem a sentence, of whatever meets the operations' contracts.
-use Prim.Native.Nat.{ℕ, _+_, _*_, _≤_, _<_}
+use Prim.Native.Nat.{ℕ, zero, suc, _+_, _*_, _≤_, _<_}
 use mathlib.Core.Path.{_≡_, refl, sym, ap, _∙_}
 use mathlib.Core.Bool.{true, false, true≢false, not-eq-not}
 use mathlib.Core.List.{List, [], _∷_}
 use native.Mathlib.Omega.{arith}
 use lib.ListN.{length, getD, take, drop, List·getD-append}
 use lib.Seq.{take-at}
-use lib.Dec.{leb}
+use lib.Dec.{leb, lit<}
 use borrow.Author.Tests.{le-leb, leb-true}
 use Rattle.words.specs.Checks.{Check, check, firstFailing, AllPass}
 use Rattle.words.proofs.All.{all-append, all-first, all-later}
-use Rattle.words.proofs.First.{first-pass, done-passes}
+use Rattle.words.proofs.First.{first-pass, pass-answers, done-passes}
 use Rattle.words.proofs.Entries.{length-entries}
 use Rattle.words.proofs.Tables.{used-at}
-use Rattle.words.proofs.Tests.{ltb-says}
+use Rattle.words.proofs.Tests.{ltb-says, leb-says}
+use Rattle.words.proofs.Says.{Says, check-says, _then_}
 use Rattle.fields.specs.Bytes.{Bytes}
-use Rattle.moves.specs.System.{start}
+use Rattle.moves.specs.System.{pos, start, sum}
 use Rattle.moves.specs.Runs.{AllComeOut}
+use Rattle.moves.proofs.Positions.{sum-most}
 use Rattle.routes.specs.Crossing.{Crossing, steps}
 use Rattle.routes.specs.Moves.{system}
 use Rattle.routes.specs.Plans.{Complete}
 use Rattle.routes.specs.Orders.{OnlyVisitors}
-use Rattle.routes.proofs.Counts.{out-sum}
 use Rattle.routes.proofs.Moves.{out-steps, meetable}
 use Rattle.routes.proofs.Plans.{plan-visitors}
 use Rattle.graph.specs.Graph.{Cyclic}
-use Rattle.graph.proofs.Agrees.{graph-locked, graph-accepts}
+use Rattle.graph.proofs.Agrees.{graph-locked, graph-accepts, graph-agrees}
 use Rattle.times.specs.Times.{Given, finish, EnteringTimes, Ranged}
 use Rattle.times.proofs.Entered.{entering-same}
 use Rattle.times.proofs.Times.{times-least}
-use Rattle.times.proofs.Finish.{finish-unique, finish-bound}
+use Rattle.times.proofs.Rules.{times-keep}
+use Rattle.times.proofs.Finish.{finish-most, finish-unique, finish-bound}
 use Rattle.times.proofs.Published.{published-agrees}
 use Rattle.sheet.specs.Checks.{sheetChecks}
 use Rattle.sheet.specs.Reading.{sheetOf, sheetDone, readSheet}
 use Rattle.sheet.specs.Valid.{Valid}
 use Rattle.sheet.specs.declared.Sheet.{Sheet}
 use Rattle.sheet.specs.declared.SheetRead.{SheetRead}
-use Rattle.sheet.proofs.Passing.{sheet-numbered, passes-accepted, accepted-passes}
+use Rattle.sheet.proofs.Passing.{SheetPasses, sheet-numbered, passes-accepted, accepted-passes}
 use Rattle.sheet.proofs.Accepted.{accepted-valid}
 use Rattle.plan.specs.Reading.{readPlan}
 use Rattle.plan.specs.Valid.{planLength}
 use Rattle.plan.specs.Written.{written}
-use Rattle.plan.proofs.Readable.{said-sheet, said-valid}
+use Rattle.plan.specs.declared.Orders.{Orders}
+use Rattle.plan.specs.declared.PlanRead.{PlanRead}
+use Rattle.plan.proofs.Passing.{PlanPasses, reading-says, read-passes, passes-read}
+use Rattle.plan.proofs.Readable.{readable-whole, readable-length, said-sheet, said-valid}
 use Rattle.plan.proofs.RoundTrip.{written-readable}
-use Rattle.plan_writer.specs.Writing.{writeAgain, roomAfter}
+use Rattle.plan_writer.specs.Writing.{writingChecks, notWritten, wrote, writeAgain, roomAfter}
 use Rattle.plan_writer.specs.declared.PlanWritten.{PlanWritten}
 use Rattle.plan_writer.proofs.SameBytes.{same-bytes}
-use Rattle.crossing.specs.Tables.{crossingOf}
-use Rattle.crossing.specs.Plans.{routesOf, listsOf}
+use Rattle.crossing.specs.Tables.{crossingOf, sheetGiven}
+use Rattle.crossing.specs.Plans.{routesOf, listsOf, planCrossing}
 use Rattle.crossing.proofs.Tables.{step-below}
 use Rattle.crossing.proofs.Plans.{plan-complete, plan-sound}
 use Rattle.entering.specs.Times.{timesOf}
@@ -56,11 +61,30 @@ use Rattle.judge.specs.declared.Judged.{Judged}
 use Rattle.judge.proofs.Verdict.{accepts-out}
 use Rattle.judge.proofs.Words.{judged-times}
 use Rattle.judge.proofs.Outcomes.{judge-locked, judge-accepted, words-accepted, number-locked, number-accepted}
+use Rattle.moving.proofs.Counts.{moves-are}
 use Rattle.planner.specs.Planning.{plannedOrders, planned, notPlanned, planningChecks, withPlan, planSheet, roomAfter as roomPlanned}
 use Rattle.planner.specs.declared.Planned.{Planned}
 use Rattle.planner.proofs.NotLocked.{planned-read, planned-length, planned-finish, planned-judged}
 use Rattle.demands.specs.DemandTwo as two
 use Rattle.demands.specs.DemandTwo.{Readable, given, Verdict, TimesTold, JudgedRightly, PlannedRightly, ReadBack, SameBytes}
+
+-- no position is above the sum
+pos-sum : (s : List ℕ) (c : ℕ) → pos s c ≤ sum s
+pos-sum [] c = omega arith
+pos-sum (x ∷ s) zero = omega arith
+pos-sum (x ∷ s) (suc c) = omega (arith, pos-sum s c)
+
+-- "0 with no carts": there are no steps then, so no move that a step could be of, and nothing is left
+module _ (sheet : Sheet) (v : Valid sheet) (none : sheet .carts ≡ 0) where
+  no-steps : sum (sheet .steps) ≡ 0
+  no-steps = omega (arith, sum-most (sheet .steps) 0 (λ c. omega (arith, v .unused .no-steps c (omega (arith, none)))))
+
+  pub finish-no-carts : (orders : Orders) (t : ℕ → ℕ → ℕ) → finish (planCrossing sheet orders) (sheetGiven sheet) t ≡ 0
+  finish-no-carts orders t =
+      let X = planCrossing sheet orders in
+      let most = finish-most X (sheetGiven sheet) t 0 λ c j h.
+      absurd (omega (arith, out-steps X c j h, pos-sum (system X .out) c, moves-are sheet orders v, no-steps, none)) in
+      omega (arith, most)
 
 module _ (s p : List ℕ) where
   abbrev X : Crossing
@@ -95,6 +119,7 @@ module _ (s p : List ℕ) where
             let out : isOut (sheetOf s) (ordersRead s p) ≡ true = not-eq-not {b = true} .0 (λ e. acyclic (locked-cyclic readable e)) in
             number-is ∙ ap (λ (x : Judged). x .outcome .number) (judge-accepted s p readable out room long),
       );
+      of-moves = λ readable. graph-agrees _ _ (full readable);
     }
 
   -- the words hold the times that judging works out, and these are the only ones
@@ -152,11 +177,16 @@ module _ (s p : List ℕ) where
         ap (λ (x : Judged). x .finish) e ∙ finish-unique X G only all judgedTime is-judged (timesOf after) told in
         record {
           equations = published-agrees X G (timesOf after) .1 told;
+          kept = times-keep X G only (timesOf after) told;
           earliest = λ u keeps. times-least X G only all (timesOf after) u told keeps;
           last = last;
           bound = omega (arith, last, finish-bound X G only all (timesOf after) told ranged);
-          counted = ap (λ (x : Judged). x .moves) e ∙ out-sum X;
+          counted = counted;
+          no-carts = λ none. let v = said-sheet s p readable in (last ∙ finish-no-carts (sheetOf s) v none (ordersRead s p) (timesOf after), omega (arith, counted, no-steps (sheetOf s) v none));
         }
+      where
+        counted : r .moves ≡ sum (sheetOf s .steps) + sheetOf s .carts
+        counted = ap (λ (x : Judged). x .moves) e ∙ moves-are (sheetOf s) (ordersRead s p) (said-sheet s p readable)
 
 -- both sentences, of what judging answers and leaves in the words
 pub judged-rightly : (s p words : List ℕ) (r : Judged) (after : List ℕ) → r ≡ judge s p (length words) → after ≡ wordsAfter s p words → JudgedRightly s p (length words) r after
@@ -206,37 +236,37 @@ module _ (s : List ℕ) where
       read : readSheet s ≡ sheetDone sheet
       read = planning-passes (length room) (sym told-number ∙ ok) .0
 
-      accepted-sheet : readSheet s .outcome .number ≡ 0
-      accepted-sheet = ap (λ (x : SheetRead). x .outcome .number) read
+      sheet-accepted : readSheet s .outcome .number ≡ 0
+      sheet-accepted = ap (λ (x : SheetRead). x .outcome .number) read
 
       valid : Valid sheet
-      valid = rw read at (accepted-valid s accepted-sheet)
+      valid = rw read at (accepted-valid s sheet-accepted)
 
       fits : planLength sheet ≤ length room
       fits = planning-passes (length room) (sym told-number ∙ ok) .1
 
-      answer-is : r ≡ planned sheet
-      answer-is = is ∙ planning-done accepted-sheet (length room) fits
+      planned-is : r ≡ planned sheet
+      planned-is = is ∙ planning-done sheet-accepted (length room) fits
 
       -- what stands at the start of the room
       plan-is : take (r .length) after ≡ written (sheet .zones) (plannedOrders sheet)
       unfolding planned
       plan-is =
-          ap (λ (x : Planned). take (x .length) after) answer-is
-          ∙ ap (take (planLength sheet)) (holds ∙ room-done accepted-sheet room fits)
+          ap (λ (x : Planned). take (x .length) after) planned-is
+          ∙ ap (take (planLength sheet)) (holds ∙ room-done sheet-accepted room fits)
           ∙ take-at (written (sheet .zones) (plannedOrders sheet)) (drop (planLength sheet) room) (planLength sheet) (planned-length sheet valid)
 
     pub planned-rightly : PlannedRightly s room r after
     planned-rightly = record {
       answers = (
-        λ ok. (accepted-sheet ok, fits ok),
+        λ ok. (sheet-accepted ok, fits ok),
         λ (accepted, l). told-number ∙ ap (λ (x : Planned). x .outcome .number) (planning-done accepted (length room) l) ∙ planned-outcome,
       );
       by-the-rule = λ ok. ap (readPlan s) (plan-is ok) ∙ planned-read sheet (valid ok) s (read ok);
       not-locked = λ ok words l.
           let judged-is = ap (λ (p : List ℕ). judge s p words) (plan-is ok) ∙ planned-judged sheet (valid ok) s (read ok) words l in (
             ap (λ (x : Judged). x .outcome .number) judged-is,
-            ap (λ (x : Judged). x .finish) judged-is ∙ sym (planned-finish sheet (valid ok)) ∙ ap (λ (x : Planned). x .finish) (sym (answer-is ok)),
+            ap (λ (x : Judged). x .finish) judged-is ∙ sym (planned-finish sheet (valid ok)) ∙ ap (λ (x : Planned). x .finish) (sym (planned-is ok)),
           );
     }
 
@@ -244,6 +274,43 @@ module _ (s : List ℕ) where
 pub plans-read-back : ReadBack
 plans-read-back = written-readable
 
--- "a readable plan written again gives the same bytes"
-pub written-again-same : (s p room : List ℕ) (r : PlanWritten) (after : List ℕ) → Bytes p → r ≡ writeAgain s p (length room) → after ≡ roomAfter s p room → SameBytes p room r after
-written-again-same s p room r after b e f ok = f ∙ same-bytes s p room b (sym (ap (λ (w : PlanWritten). w .outcome .number) e) ∙ ok)
+-- ---- writing again
+
+module _ (s p room : List ℕ) where
+  abbrev checks : List Check
+  checks = writingChecks s p (length room)
+
+  checks-say : Says checks ((SheetPasses s × PlanPasses (sheetOf s) p) × (planLength (sheetOf s) ≤ length room))
+  checks-say = reading-says s p then check-says 28 0 (lit< tt) (leb-says (planLength (sheetOf s)) (length room))
+
+  plan-long : Readable s p → length p ≡ planLength (sheetOf s)
+  plan-long readable = readable-length s p readable .0 ∙ ap (λ (x : PlanRead). planLength (x .sheet)) (readable-whole s p readable)
+
+  -- it is done where the plan is readable and there is room, and only there
+  done-readable : writeAgain s p (length room) .outcome .number ≡ 0 → Readable s p × (length p ≤ length room)
+  unfolding writeAgain
+  done-readable ok =
+      let all = done-passes (λ (w : PlanWritten). w .outcome) notWritten (wrote s) (λ o. refl) checks (checks-say .numbered) ok in
+      let (passes, fits) = checks-say .passing all in
+      let readable = ap (λ (x : PlanRead). x .outcome .number) (passes-read s p (reading-says s p .passes passes)) in
+      (readable, omega (arith, plan-long readable))
+
+  readable-done : Readable s p → length p ≤ length room → writeAgain s p (length room) ≡ wrote s
+  unfolding writeAgain
+  readable-done readable fits =
+      pass-answers notWritten (wrote s) checks (checks-say .passes (reading-says s p .passing (read-passes s p readable), omega (arith, plan-long readable)))
+
+  -- "a readable plan written again gives the same bytes"
+  pub written-again-same : (r : PlanWritten) (after : List ℕ) → Bytes p → r ≡ writeAgain s p (length room) → after ≡ roomAfter s p room → SameBytes s p room r after
+  written-again-same r after b e f =
+      let number-is : r .outcome .number ≡ writeAgain s p (length room) .outcome .number = ap (λ (w : PlanWritten). w .outcome .number) e in
+      record {
+        answers = (
+          λ ok. done-readable (sym number-is ∙ ok),
+          λ (readable, fits). number-is ∙ ap (λ (w : PlanWritten). w .outcome .number) (readable-done readable fits),
+        );
+        same = λ ok. let (readable, fits) = done-readable (sym number-is ∙ ok) in (
+          ap (λ (w : PlanWritten). w .length) (e ∙ readable-done readable fits) ∙ sym (plan-long readable),
+          f ∙ same-bytes s p room b (sym number-is ∙ ok),
+        );
+      }

@@ -36,8 +36,8 @@ use Rattle.record.specs.Record.{isReached}
 use Rattle.asking.specs.Ahead.{countAhead, aheadOf}
 use Rattle.asking.specs.Asking.{ask}
 use Rattle.moving.specs.Moving.{recordAfter}
-use Rattle.demands.specs.Examples.{firstCost, Holds, examples}
+use Rattle.demands.specs.Examples.{firstCost, leavingTimes, Holds, examples}
 
 pub examples-hold : All Holds examples
-unfolding firstCost planSheet roomAfter planned plannedOrders ordersBy plannedLists passingLists finalOrders decisions solved trial turn decide candidates while turns largestCost cost isTakenOver spareTime spareRule leastOf workedBack removal.movesMade removal.isOut removal.enteringTime isUndecided goesBefore pairOrder isPair rank isDecided written listsBytes listBytes bytesOf sumBelow setBelow readSheet readPlan judge wordsAfter ask recordAfter aheadOf countAhead isReached isInRange isClosed isOut movesMade lockedRing enteringTime timeWords lowestStuck ringFrom lowest isPermitted greedy end put workedOut leastFrom between ringFirst ringRest allBelow placeOf isAhead firstOf largest entering finish givenOf ordersOf sheetChecks zoneChecks stepChecks cartChecks laneChecks firstFailing fieldChecks value each entries anyBelow countBelow cartAt sheetOf countAt planChecks listChecks planCartChecks planLaneChecks
-examples-hold = ((refl, refl), ((refl, refl), ((refl, refl), (refl, (refl, (refl, (refl, ((refl, refl), (refl, (refl, (refl, ((refl, refl), ((refl, refl), ((refl, refl), ((refl, refl), ((refl, refl), ((refl, refl), ((refl, refl), ((refl, refl), ((refl, refl), tt))))))))))))))))))))
+unfolding firstCost leavingTimes planSheet roomAfter planned plannedOrders ordersBy plannedLists passingLists finalOrders decisions solved trial turn decide candidates while turns largestCost cost isTakenOver spareTime spareRule leastOf workedBack removal.movesMade removal.isOut removal.enteringTime isUndecided goesBefore pairOrder isPair rank isDecided written listsBytes listBytes bytesOf sumBelow setBelow readSheet readPlan judge wordsAfter ask recordAfter aheadOf countAhead isReached isInRange isClosed isOut movesMade lockedRing enteringTime timeWords lowestStuck ringFrom lowest isPermitted greedy end put workedOut leastFrom between ringFirst ringRest allBelow placeOf isAhead firstOf largest entering finish givenOf ordersOf sheetChecks zoneChecks stepChecks cartChecks laneChecks firstFailing fieldChecks value each entries anyBelow countBelow cartAt sheetOf countAt planChecks listChecks planCartChecks planLaneChecks
+examples-hold = ((refl, refl), (refl, ((refl, refl), ((refl, refl), (refl, (refl, (refl, (refl, ((refl, refl), (refl, (refl, (refl, ((refl, refl), ((refl, refl), ((refl, refl), ((refl, refl), ((refl, refl), ((refl, refl), ((refl, refl), ((refl, refl), ((refl, refl), tt)))))))))))))))))))))

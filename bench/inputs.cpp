@@ -148,6 +148,19 @@ Bytes plan_by_rule(const Bytes& sheet_bytes) {
   return room;
 }
 
+// The sheet's parts one after the other, in document 01's order.
+void fill_table(const yardstick::Sheet& sheet, std::uint32_t* table) {
+  const auto put = [&table](const auto& part) { table = std::copy(std::begin(part), std::end(part), table); };
+  put(sheet.follow);
+  put(sheet.cross);
+  put(sheet.lane);
+  put(sheet.arrival);
+  put(sheet.steps);
+  put(sheet.zone);
+  put(sheet.passing);
+  put(sheet.travel);
+}
+
 }  // namespace
 
 std::vector<Input> make_inputs(const Size& size, unsigned count, Plans plans) {
@@ -162,6 +175,7 @@ std::vector<Input> make_inputs(const Size& size, unsigned count, Plans plans) {
                                            : maker.plan_by_priority(input.sheet);
     const auto read = yardstick::read_plan(lent(input.sheet_bytes), lent(input.plan_bytes), input.sheet, input.lanes, input.orders);
     if (read.number != 0) std::abort();
+    fill_table(input.sheet, input.table);
     if (plans == Plans::accepted && yardstick::is_locked(input.sheet, input.orders.ahead)) std::abort();
     input.record = maker.record_after(input.sheet, input.orders, maker.below(yardstick::moves_of(input.sheet.steps)));
     input.cart = maker.below(size.carts);

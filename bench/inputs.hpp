@@ -28,6 +28,7 @@ extern const Series all_series[3];
 struct Input {
   Bytes sheet_bytes, plan_bytes;
   yardstick::Sheet sheet;
+  std::uint32_t table[480];  // the sheet's facts as the proved core takes them (crates/sheet_table)
   yardstick::Lanes lanes;
   yardstick::Orders orders;
   oblakosh_record record;

@@ -3,11 +3,8 @@
 #include <cstring>
 #include <new>
 
-// The proved core, as its static library exports it. The tables have the lengths of the sheet's.
-extern "C" std::size_t bench_settle(const std::uint8_t* steps, const std::uint8_t* zone, const std::uint16_t* ahead,
-                                    const std::uint8_t* lane, const std::uint32_t* arrival, const std::uint16_t* passing,
-                                    const std::uint16_t* travel, const std::uint16_t* follow, const std::uint16_t* cross,
-                                    std::uint32_t* enter);
+// The proved core, as its static library exports it.
+extern "C" std::size_t bench_settle(const std::uint32_t* sheet, const std::uint16_t* ahead, std::uint32_t* enter);
 
 Proved proved;
 ByHand by_hand;
@@ -39,8 +36,7 @@ MEASURED proved_read_plan(const Input& input) {
 }
 
 MEASURED proved_core(const Input& input) {
-  const yardstick::Sheet& s = input.sheet;
-  proved.made = bench_settle(s.steps, s.zone, input.orders.ahead, s.lane, s.arrival, s.passing, s.travel, s.follow, s.cross, proved.enter);
+  proved.made = bench_settle(input.table, input.orders.ahead, proved.enter);
 }
 
 MEASURED proved_judge(const Input& input) {

@@ -17,17 +17,18 @@ use Rattle.words.proofs.Tests.{ltb-says, leb-says}
 use Rattle.words.proofs.Says.{Says, check-says, _then_}
 use Rattle.fields.specs.Bytes.{Bytes}
 use Rattle.moves.specs.System.{pos, start, sum}
-use Rattle.moves.specs.Runs.{AllComeOut}
+use Rattle.moves.specs.inner.Runs.{AllComeOut}
 use Rattle.moves.proofs.Positions.{sum-most}
 use Rattle.routes.specs.Crossing.{Crossing, steps}
 use Rattle.routes.specs.Moves.{system}
-use Rattle.routes.specs.Plans.{Complete}
-use Rattle.routes.specs.Orders.{OnlyVisitors}
+use Rattle.routes.specs.inner.Plans.{Complete}
+use Rattle.routes.specs.inner.Orders.{OnlyVisitors}
 use Rattle.routes.proofs.Moves.{out-steps, meetable}
 use Rattle.routes.proofs.Plans.{plan-visitors}
 use Rattle.graph.specs.Graph.{Cyclic}
 use Rattle.graph.proofs.Agrees.{graph-locked, graph-accepts, graph-agrees}
-use Rattle.times.specs.Times.{Given, finish, EnteringTimes, Ranged}
+use Rattle.times.specs.Times.{Given, finish}
+use Rattle.times.specs.inner.Times.{EnteringTimes, Ranged}
 use Rattle.times.proofs.Entered.{entering-same}
 use Rattle.times.proofs.Times.{times-least}
 use Rattle.times.proofs.Rules.{times-keep}
@@ -51,11 +52,12 @@ use Rattle.plan.proofs.RoundTrip.{written-readable}
 use Rattle.plan_writer.specs.Writing.{writingChecks, notWritten, wrote, writeAgain, roomAfter}
 use Rattle.plan_writer.specs.declared.PlanWritten.{PlanWritten}
 use Rattle.plan_writer.proofs.SameBytes.{same-bytes}
-use Rattle.crossing.specs.Tables.{crossingOf, sheetGiven}
+use Rattle.crossing.specs.inner.Tables.{crossingBy}
+use Rattle.crossing.specs.Plans.{sheetGiven}
 use Rattle.crossing.specs.Plans.{routesOf, listsOf, planCrossing}
 use Rattle.crossing.proofs.Tables.{step-below}
 use Rattle.crossing.proofs.Plans.{plan-complete, plan-sound}
-use Rattle.entering.specs.Times.{timesOf}
+use Rattle.judge_entering.specs.Times.{timesOf}
 use Rattle.judge.specs.Judging.{isOut, enteringTime, timeWords, judged, withTimes, ordersRead, judge, wordsAfter}
 use Rattle.judge.specs.declared.Judged.{Judged}
 use Rattle.judge.proofs.Verdict.{accepts-out}
@@ -95,10 +97,10 @@ module _ (s p : List ℕ) where
 
   -- the verdict is the published graph's
   locked-cyclic : Readable s p → isOut (sheetOf s) (ordersRead s p) ≡ false → Cyclic X
-  locked-cyclic readable e = graph-locked _ _ (full readable) .1 (λ all. true≢false (sym (accepts-out _ _ .1 all) ∙ e))
+  locked-cyclic readable e = graph-locked _ _ (full readable) .1 (λ all. true≢false (sym (accepts-out (sheetOf s) (ordersRead s p) .1 all) ∙ e))
 
   accepted-acyclic : Readable s p → isOut (sheetOf s) (ordersRead s p) ≡ true → ¬ (Cyclic X)
-  accepted-acyclic readable e = graph-accepts _ _ (full readable) .1 (accepts-out _ _ .0 e)
+  accepted-acyclic readable e = graph-accepts _ _ (full readable) .1 (accepts-out (sheetOf s) (ordersRead s p) .0 e)
 
   module _ (room : ℕ) (r : Judged) (is : r ≡ judge s p room) where
     number-is : r .outcome .number ≡ judge s p room .outcome .number
@@ -135,15 +137,16 @@ module _ (s p : List ℕ) where
     only = plan-visitors _ _ (full readable)
 
     all : AllComeOut (system X) (start (system X))
-    all = accepts-out _ _ .0 accepted
+    all = accepts-out (sheetOf s) (ordersRead s p) .0 accepted
 
     ranged : Ranged X G
-    unfolding crossingOf
+    unfolding crossingBy
     ranged =
         let same = plan-sound (sheetOf s) (said-sheet s p readable) (ordersRead s p) (said-valid s p readable) .ranged in
         record {
           carts-most = same .carts-most;
           steps-most = same .steps-most;
+          lane-most = same .lane-most;
           arrival-most = same .arrival-most;
           passing-most = same .passing-most;
           travel-most = same .travel-most;
@@ -155,7 +158,7 @@ module _ (s p : List ℕ) where
     is-judged = judged-times (sheetOf s) (ordersRead s p) (said-sheet s p readable) (said-valid s p readable) accepted
 
     word-is : (c j : ℕ) → j < steps X c → timesOf after c j ≡ judgedTime c j
-    unfolding timeWords crossingOf
+    unfolding timeWords crossingBy
     word-is c j h =
         let place : 8 * c + j < 128 = omega (arith, ranged .steps-most c, step-below (sheetOf s .steps) (sheetOf s .zone) (ordersRead s p .ahead) c j h) in
         let sized : length (timeWords (sheetOf s) (ordersRead s p)) ≡ 128 = length-entries 128 0 _ in

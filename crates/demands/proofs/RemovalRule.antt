@@ -14,11 +14,11 @@ use Rattle.sheet.specs.declared.Sheet.{Sheet}
 use Rattle.removal.specs.Pairs.{Unplanned, rank}
 use Rattle.removal.specs.Present.{present}
 use Rattle.removal.specs.Removal.{decisions}
-use Rattle.removal.specs.Solved.{PairIn}
+use Rattle.removal.specs.Pairs.{PairIn}
 use Rattle.removal.proofs.Ranks.{rank-injective}
 use Rattle.removal.proofs.Pairs.{pair-says}
 use Rattle.removal.proofs.Present.{present-visitors}
-use Rattle.removal.proofs.Running.{out-says}
+use Rattle.times.proofs.Running.{out-says}
 use Rattle.removal.proofs.Levels.{levels-suffice}
 use Rattle.planner.specs.Planning.{unplanned}
 use Rattle.demands.specs.DemandTwo.{TestsForCycle, Group, whole, lower, upper, FourLevels}

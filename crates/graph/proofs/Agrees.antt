@@ -3,10 +3,12 @@ use Prim.Native.Nat.{ℕ}
 use mathlib.Core.Logic.{_↔_, _⊎_, inl, inr}
 use mathlib.Core.List.{List}
 use Rattle.moves.specs.System.{System, start}
-use Rattle.moves.specs.Runs.{AllComeOut, Stuck, end}
-use Rattle.moves.specs.Records.{Meetable}
+use Rattle.moves.specs.Runs.{end}
+use Rattle.moves.specs.inner.Runs.{AllComeOut, Stuck}
+use Rattle.moves.specs.inner.Records.{Meetable}
 use Rattle.moves.specs.Cycles.{Cycle}
-use Rattle.moves.specs.Rings.{LowestNotOut, Points, follow}
+use Rattle.moves.specs.Rings.{LowestNotOut, follow}
+use Rattle.moves.specs.inner.Rings.{Points}
 use Rattle.moves.proofs.Runs.{start-in-range}
 use Rattle.moves.proofs.Ends.{end-reached, end-stuck}
 use Rattle.moves.proofs.Out.{stuck-out, out-or-left}
@@ -14,11 +16,13 @@ use Rattle.moves.proofs.Rings.{follow-not-out, follow-waits, stuck-repeats}
 use Rattle.moves.proofs.Cycles.{locked-iff-cycle}
 use Rattle.routes.specs.Crossing.{Crossing}
 use Rattle.routes.specs.Moves.{system}
-use Rattle.routes.specs.Plans.{plan, Complete, pointsTo}
+use Rattle.routes.specs.Plans.{plan, pointsTo}
+use Rattle.routes.specs.inner.Plans.{Complete}
 use Rattle.routes.proofs.Moves.{meetable}
 use Rattle.routes.proofs.Plans.{plan-once, plan-visitors}
 use Rattle.routes.proofs.Pointing.{plan-points}
-use Rattle.graph.specs.Graph.{Cyclic, Deadlock}
+use Rattle.graph.specs.Graph.{Cyclic}
+use Rattle.graph.specs.inner.Graph.{Deadlock}
 use Rattle.graph.proofs.Moves.{cyclic-cycle, out-not-cyclic}
 use Rattle.graph.proofs.Rings.{ring-cyclic}
 

@@ -9,8 +9,10 @@ use Rattle.words.specs.Lists.{anyBelow}
 use Rattle.moves.specs.System.{start}
 use Rattle.moves.specs.Search.{lowest}
 use Rattle.moves.specs.Moves.{isPermitted}
-use Rattle.moves.specs.Runs.{AllComeOut, greedy, end}
-use Rattle.moves.specs.Records.{isClosed, Meetable}
+use Rattle.moves.specs.Runs.{greedy, end}
+use Rattle.moves.specs.inner.Runs.{AllComeOut}
+use Rattle.moves.specs.Records.{isClosed}
+use Rattle.moves.specs.inner.Records.{Meetable}
 use Rattle.moves.specs.Cycles.{Cycle}
 use Rattle.moves.proofs.Runs.{start-in-range}
 use Rattle.moves.proofs.Out.{end-out}
@@ -20,7 +22,8 @@ use Rattle.routes.specs.Lists.{placeOf}
 use Rattle.routes.specs.Crossing.{Crossing, steps}
 use Rattle.routes.specs.Moves.{system}
 use Rattle.routes.proofs.Examples.{routesS, listsA, listsB, A, B, complete-A, complete-B, out-A, locked-B}
-use Rattle.graph.specs.Graph.{Vertex, Way, direct, onward, Cyclic}
+use Rattle.graph.specs.Graph.{Way, direct, onward, Cyclic}
+use Rattle.graph.specs.inner.Graph.{Vertex}
 use Rattle.graph.proofs.Moves.{edge-vertices}
 use Rattle.graph.proofs.Agrees.{graph-locked, graph-accepts}
 

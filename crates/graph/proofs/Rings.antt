@@ -8,12 +8,12 @@ use native.Mathlib.Decide.{decLt, ℕ-discrete}
 use native.Mathlib.Omega.{arith}
 use lib.Dec.{ltb}
 use Rattle.moves.specs.System.{pos}
-use Rattle.moves.specs.Moves.{Waits}
+use Rattle.moves.specs.inner.Moves.{Waits}
 use Rattle.moves.specs.Rings.{follow}
 use Rattle.routes.specs.Lists.{firstOf}
 use Rattle.routes.specs.Crossing.{Crossing, route, steps, zone, stepIn, leftAt}
 use Rattle.routes.specs.Moves.{system}
-use Rattle.routes.specs.Orders.{OnlyVisitors}
+use Rattle.routes.specs.inner.Orders.{OnlyVisitors}
 use Rattle.routes.specs.Plans.{listOf, plan, pointsTo}
 use Rattle.routes.proofs.Places.{place-below, place-names}
 use Rattle.routes.proofs.Ahead.{ahead-self}

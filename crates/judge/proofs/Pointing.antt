@@ -10,10 +10,11 @@ use lib.Dec.{ltb}
 use borrow.Author.Tests.{lt-ltb, le-ltb}
 use Rattle.words.specs.Lists.{pick, entries}
 use Rattle.words.proofs.Entries.{length-entries, getD-entries, at-entry}
-use Rattle.sets.specs.Member.{has}
+use Rattle.sets.specs.inner.Member.{has}
 use Rattle.moves.specs.System.{pos}
 use Rattle.routes.specs.Lists.{firstOf}
-use Rattle.routes.specs.Crossing.{Crossing, route, steps, zone, Visits, leftAt}
+use Rattle.routes.specs.Crossing.{Crossing, route, steps, zone, leftAt}
+use Rattle.routes.specs.inner.Crossing.{Visits}
 use Rattle.routes.specs.Plans.{listOf, pointsTo}
 use Rattle.routes.proofs.Moves.{left-says}
 use Rattle.sheet.specs.Valid.{Valid}
@@ -21,11 +22,11 @@ use Rattle.sheet.specs.declared.Sheet.{Sheet}
 use Rattle.plan.specs.Valid.{passingList, ValidOrders}
 use Rattle.plan.specs.Written.{count, listed}
 use Rattle.plan.specs.declared.Orders.{Orders}
-use Rattle.crossing.specs.Tables.{crossingOf, sheetCrossing, LeftSet}
+use Rattle.crossing.specs.inner.Tables.{crossingBy, sheetCrossing, LeftSet}
 use Rattle.crossing.specs.Plans.{routesOf, listsOf, planCrossing}
 use Rattle.crossing.proofs.Tables.{steps-is, zone-is}
 use Rattle.crossing.proofs.Plans.{plan-complete}
-use Rattle.ring.specs.Tables.{wantedIn, pointIn}
+use Rattle.judge_ring.specs.inner.Tables.{wantedIn, pointIn}
 
 -- two tests that agree on a list have the same first
 first-same : (test other : ℕ → Bool) (rule : ℕ → ℕ) (n i : ℕ) → ((k : ℕ) → i ≤ k → k < i + n → test (rule k) ≡ other (rule k))
@@ -41,7 +42,7 @@ module _ (sheet : Sheet) (orders : Orders) (at : List ℕ) where
   X = sheetCrossing sheet (orders .ahead)
 
   pub wanted-is : (c : ℕ) → c < 16 → wantedIn (sheet .steps) (sheet .zone) at c ≡ zone (planCrossing sheet orders) c (pos at c)
-  unfolding crossingOf
+  unfolding crossingBy
   wanted-is c l = go (decLt (pos at c) (steps X c))
     where
       k : steps X c ≡ getD (sheet .steps) c 0
@@ -66,7 +67,7 @@ module _ (sheet : Sheet) (orders : Orders) (at : List ℕ) where
             rw (lt-ltb (pos at d) (leftAt X d z) (omega (arith, m)), out)
 
     listed-visits : (z : ℕ) → z < sheet .zones → (k : ℕ) → k < count orders z → Visits X (listed orders z k) z
-    unfolding crossingOf
+    unfolding crossingBy
     listed-visits z l k h =
         let long : length (listOf (listsOf sheet orders) z) ≡ count orders z = ap length (list-is z l) ∙ length-entries (count orders z) 0 (listed orders z) in
         let here : getD (listOf (listsOf sheet orders) z) k 0 ≡ listed orders z k =
@@ -75,7 +76,7 @@ module _ (sheet : Sheet) (orders : Orders) (at : List ℕ) where
 
     pub points-is : (c : ℕ) → c < 16 → wantedIn (sheet .steps) (sheet .zone) at c < sheet .zones
         → pointIn (sheet .steps) (sheet .zone) (orders .count) (orders .list) at left c ≡ pointsTo (routesOf sheet) (listsOf sheet orders) at c
-    unfolding crossingOf
+    unfolding crossingBy
     points-is c l h =
         let z = wantedIn (sheet .steps) (sheet .zone) at c in
         let test : ℕ → Bool = λ d. ltb (pos at d) (leftAt X d z) in

@@ -8,7 +8,7 @@ use native.Mathlib.Decide.{decLt}
 use lib.ListN.{getD}
 use borrow.Author.Tests.{lt-ltb, le-ltb}
 use Rattle.words.specs.Lists.{pick, entries}
-use Rattle.sets.specs.Member.{has}
+use Rattle.sets.specs.inner.Member.{has}
 use Rattle.moves.specs.System.{carts, pos}
 use Rattle.routes.specs.Lists.{firstOf}
 use Rattle.routes.specs.Crossing.{zone}
@@ -21,12 +21,12 @@ use Rattle.plan.specs.Written.{count, listed}
 use Rattle.plan.specs.declared.Orders.{Orders}
 use Rattle.plan.proofs.Visitors.{step-cart, visitors-most}
 use Rattle.plan.proofs.Lists.{listed-cart}
-use Rattle.crossing.specs.Tables.{crossingOf, sheetCrossing, LeftSet}
+use Rattle.crossing.specs.inner.Tables.{crossingBy, sheetCrossing, LeftSet}
 use Rattle.crossing.specs.Plans.{routesOf, listsOf, planCrossing}
 use Rattle.crossing.proofs.Tables.{carts-16}
-use Rattle.ring.specs.Ring.{ringBy, ringOf}
-use Rattle.ring.specs.Tables.{wantedIn, Wanting, pointIn, Listable, AllListable}
-use Rattle.ring.proofs.Same.{ring-same}
+use Rattle.judge_ring.specs.Ring.{ringBy, ringOf}
+use Rattle.judge_ring.specs.inner.Tables.{wantedIn, Wanting, pointIn, Listable, AllListable}
+use Rattle.judge_ring.proofs.Same.{ring-same}
 use Rattle.judge.proofs.Pointing.{wanted-is, points-is}
 
 first-below : (test : ℕ → Bool) (rule : ℕ → ℕ) (most n i : ℕ) → 0 < most → ((k : ℕ) → i ≤ k → k < i + n → rule k < most)
@@ -79,7 +79,7 @@ module _ (sheet : Sheet) (v : Valid sheet) (at : List ℕ) where
           first-below (λ d. not (has (getD left z 0) d)) (listed orders z) 16 (count orders z) 0 (omega arith) (λ k _ b. orders-listable z l .cart k (omega (arith, b)))
 
       plan-carts : carts (system (planCrossing sheet orders)) ≡ 16
-      unfolding crossingOf
+      unfolding crossingBy
       plan-carts = carts-16 (sheet .steps) (sheet .zone) (orders .ahead)
 
       pub ring-is : (c : ℕ) → c < 16

@@ -3,17 +3,17 @@ use fields::Cursor;
 use fields::Field;
 use fields::two_bytes;
 use judge::judge;
+use judge_ring::Ring;
 use libc::STDOUT_FILENO;
-use ring::Ring;
 use sheet::Sheet;
-use show::end_line;
-use show::least;
-use show::put;
+use sheet_text::end_line;
+use sheet_text::put;
+use words::least;
 ghost use mathlib.Core.Path.{_≡_};
 ghost use Prim.Native.Nat.{_+_, _-_, _≤_, _<_};
 ghost use lib.ListN.{length};
 ghost use Rattle.words.specs.Lists.{pick};
-ghost use Rattle.judge_text.specs.Input.{sheetLength};
+ghost use Rattle.judge_text.specs.inner.Input.{sheetLength};
 
 // How many of the bytes are the sheet.
 fn sheet_length(input: &[u8]) -> usize
@@ -96,7 +96,7 @@ fn show_steps(sheet: Sheet, words: [u32; 128], c: usize, k: usize)
 
 // A line for each step of an accepted plan, by cart and then by step.
 fn show_times(s: &[u8], words: [u32; 128]) {
-    let read = reader::read_sheet(s);
+    let read = sheet_reader::read_sheet(s);
     let sheet = read.sheet;
     let mut c = 0;
     while c < 16 {
@@ -111,7 +111,7 @@ pub fn show_judged(s: &[u8], p: &[u8]) {
     let judged = judge(s, p, &mut words);
     let outcome = judged.outcome;
     if outcome.number != 0 {
-        show::put_refusal(outcome);
+        sheet_text::put_refusal(outcome);
         end_line();
         show_ring(judged.ring);
         return;

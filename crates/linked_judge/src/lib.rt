@@ -13,7 +13,7 @@ ghost use Rattle.judge.specs.Judging.{judge, wordsAfter};
 pub extern "C" fn oblakosh_read_sheet(s: &[u8]) -> SheetRead
     ensures { λ r. ⌜ r ≡ readSheet (now (s .entry)) ⌝ }
 {
-    reader::read_sheet(s)
+    sheet_reader::read_sheet(s)
 }
 
 // Reading a plan: 1 to 21.

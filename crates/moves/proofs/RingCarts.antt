@@ -5,7 +5,8 @@ use mathlib.Core.Logic.{_≢_}
 use mathlib.Core.List.{List, [], _∷_}
 use native.Mathlib.Omega.{arith}
 use lib.ListN.{length, getD}
-use Rattle.moves.specs.Rings.{follow, Leads}
+use Rattle.moves.specs.Rings.{follow}
+use Rattle.moves.specs.inner.Rings.{Leads}
 use Rattle.moves.proofs.Pointing.{follow-add, leads-turn, leads-entry}
 
 -- every cart of a ring after its first is above the first

@@ -7,12 +7,13 @@ use native.Mathlib.Omega.{arith}
 use lib.ListN.{length, getD, length-map, List·getD-map, List·getD-eq-default}
 use lib.Seq.{ext-getD}
 use Rattle.moves.specs.System.{sum}
-use Rattle.routes.specs.Crossing.{Crossing, steps, presentCarts}
+use Rattle.routes.specs.Crossing.{Crossing, steps}
+use Rattle.routes.specs.inner.Crossing.{presentCarts}
 use Rattle.routes.proofs.Counts.{out-sum, present-are}
 use Rattle.sheet.specs.Valid.{Valid}
 use Rattle.sheet.specs.declared.Sheet.{Sheet}
 use Rattle.plan.specs.declared.Orders.{Orders}
-use Rattle.crossing.specs.Tables.{crossingOf}
+use Rattle.crossing.specs.inner.Tables.{crossingBy}
 use Rattle.crossing.specs.Plans.{planCrossing}
 use Rattle.crossing.proofs.Tables.{routes-16, steps-is}
 use Rattle.judge.specs.Judging.{planSystem}
@@ -22,11 +23,11 @@ module _ (sheet : Sheet) (orders : Orders) (v : Valid sheet) where
   P = planCrossing sheet orders
 
   sixteen : length (P .routes) ≡ 16
-  unfolding crossingOf
+  unfolding crossingBy
   sixteen = routes-16 (sheet .steps) (sheet .zone) (orders .ahead)
 
   steps-are : (c : ℕ) → c < 16 → steps P c ≡ getD (sheet .steps) c 0
-  unfolding crossingOf
+  unfolding crossingBy
   steps-are = steps-is (sheet .steps) (sheet .zone) (orders .ahead)
 
   counts-are : map length (P .routes) ≡ sheet .steps

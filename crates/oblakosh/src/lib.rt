@@ -1,22 +1,22 @@
 // What C and Rust call (include/oblakosh.h): the judge's three functions once more, and the other operations.
 // The routine that moves carts is exported by its own crate, `moving`: no function here could hand a `&mut` record on to it.
-use asking::Asked;
 use judge::Judged;
+use moving_asking::Asked;
+use moving_record::Record;
 use plan::PlanRead;
 use plan_writer::PlanWritten;
+use plan_zone_list::ListFound;
 use planner::Planned;
-use record::Record;
 use sheet::SheetRead;
-use zone_list::ListFound;
 ghost use mathlib.Core.Path.{_≡_};
 ghost use lib.ListN.{length};
 ghost use Rattle.sheet.specs.Reading.{readSheet};
 ghost use Rattle.plan.specs.Reading.{readPlan};
 ghost use Rattle.judge.specs.Judging.{judge, wordsAfter};
 ghost use Rattle.plan_writer.specs.Writing.{writeAgain, roomAfter};
-ghost use Rattle.zone_list.specs.Finding.{FoundIs};
+ghost use Rattle.plan_zone_list.specs.Finding.{FoundIs};
 ghost use Rattle.planner.specs.Planning as planning;
-ghost use Rattle.asking.specs.Asking.{ask};
+ghost use Rattle.moving_asking.specs.Asking.{ask};
 
 // Reading a sheet: 1 to 14.
 #[no_mangle]
@@ -57,7 +57,7 @@ pub extern "C" fn oblakosh_write_again(s: &[u8], p: &[u8], room: &mut [u8]) -> P
 pub extern "C" fn oblakosh_find_list(s: &[u8], p: &[u8], zone: usize) -> ListFound
     ensures { λ r. ⌜ FoundIs (now (s .entry)) (now (p .entry)) zone r ⌝ }
 {
-    zone_list::find_list(s, p, zone)
+    plan_zone_list::find_list(s, p, zone)
 }
 
 // Planning a sheet: 1 to 14, then 28.
@@ -74,5 +74,5 @@ pub extern "C" fn oblakosh_plan(s: &[u8], room: &mut [u8]) -> Planned
 pub extern "C" fn oblakosh_ask(s: &[u8], p: &[u8], lent: Record, cart: usize) -> Asked
     ensures { λ r. ⌜ r ≡ ask (now (s .entry)) (now (p .entry)) lent cart ⌝ }
 {
-    asking::ask(s, p, lent, cart)
+    moving_asking::ask(s, p, lent, cart)
 }

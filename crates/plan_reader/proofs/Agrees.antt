@@ -14,12 +14,17 @@ use Rattle.words.specs.Checks.{Check, check, firstFailing}
 use Rattle.words.specs.declared.Outcome.{Outcome}
 use Rattle.words.proofs.Filling.{table-none, table-next}
 use Rattle.words.proofs.Tests.{and-both}
+use Rattle.words.proofs.Rows.{rows-next, front-next}
 use Rattle.fields.specs.Field.{fieldChecks}
 use Rattle.fields.specs.declared.Cursor.{Cursor}
 use Rattle.fields.proofs.TakingLaws.{taking-checks, pick-checks}
-use Rattle.sets.specs.Member.{has}
+use Rattle.sets.specs.inner.Member.{has}
 use Rattle.sheet.specs.Valid.{Valid}
 use Rattle.sheet.specs.declared.Sheet.{Sheet}
+use Rattle.opening.specs.inner.Opening.{openingBy, onOpening}
+use Rattle.opening.specs.declared.Opening.{Opening}
+use Rattle.opening.specs.declared.Opening.the-variants.{Refused as NoOpening}
+use Rattle.opening.proofs.OpeningLaws.{opening-of}
 use Rattle.plan.specs.Layout.{countAt, countOf, cartAt, cartOf}
 use Rattle.plan.specs.Lists.{visits, visitors}
 use Rattle.plan.specs.Checks.{isListed, cartChecks, listChecks, laneChecks, planChecks}
@@ -27,14 +32,13 @@ use Rattle.plan.specs.Reading.{planRefused, planDone}
 use Rattle.plan.specs.declared.Orders.{Orders}
 use Rattle.plan.specs.declared.PlanRead.{PlanRead}
 use Rattle.plan.proofs.Visitors.{visitors-most}
-use Rattle.lists.specs.Sets.{whoVisits, mayLead, withCart, firstLate}
-use Rattle.lists.specs.Scan.{Lists, countTaken, cartTaken, noLists, putCount, putCart, Scanned, onTaken, cartsFrom, listsFrom}
-use Rattle.lists.specs.declared.Taken.{Taken}
-use Rattle.lists.specs.declared.Taken.the-variants.{Got, Refused}
-use Rattle.plan_reader.specs.Scan.{Done, Refuses, planOf, ordersOf, finish, onScanned, fromLists, scan, sheetScan}
+use Rattle.plan_lists.specs.inner.Sets.{whoVisits, mayLead, withCart, firstLate}
+use Rattle.plan_lists.specs.inner.Scan.{Lists, countTaken, cartTaken, noLists, putCount, putCart, Scanned, onTaken, cartsFrom, listsFrom}
+use Rattle.plan_lists.specs.declared.Taken.{Taken}
+use Rattle.plan_lists.specs.declared.Taken.the-variants.{Got, Refused}
+use Rattle.plan_reader.specs.inner.Scan.{Done, Refuses, planOf, ordersOf, finish, onScanned, fromLists, scan, sheetScan}
 use Rattle.plan_reader.proofs.Listed.{seen, seen-none, seen-has, seen-more, who, who-ones, who-has, visits-below, lead, late-is}
-use Rattle.plan_reader.proofs.ListTables.{listRule, beforeRule, listed, before, listed-none, before-none, listed-put, before-put}
-use Rattle.plan_reader.proofs.Rows.{rows-next}
+use Rattle.plan_reader.proofs.ListTables.{beforeRule, listed, before, listed-none, before-none, listed-put, before-put}
 use Rattle.plan_reader.proofs.Late.{first, LateIs, late-none, nextLate, late-entry, late-zone}
 
 module _ (sheet : Sheet) (valid : Valid sheet) (p : List ℕ) where
@@ -148,17 +152,21 @@ module _ (sheet : Sheet) (valid : Valid sheet) (p : List ℕ) where
       next : (end : ℕ)
           → whole (listsFrom p visitorsOf leads n (z + 1) (soFar (z + 1) (z + 1) 0 end) (record { at = countAt p (z + 1) })) ≡ tableAnswer (each n (z + 1) (listChecks sheet p) ++ last)
           → whole (listsFrom p visitorsOf leads n (z + 1) (soFar (z + 1) z (countOf p z) end) (record { at = cartAt p z (countOf p z) })) ≡ tableAnswer (each n (z + 1) (listChecks sheet p) ++ last)
-      next end g = rw (count-next z, rows-next (countOf p) (listRule p) z (countOf p z) refl, rows-next (countOf p) (beforeRule p) z (countOf p z) refl) g
+      next end g = rw (count-next z, front-next 384 16 (countOf p) (cartOf p) z (countOf p z) refl, rows-next 384 16 (countOf p) (beforeRule p) z (countOf p z) refl) g
 
   nothing-yet : noLists ≡ soFar 0 0 0 0
   nothing-yet = rw (← table-none 24 (countOf p), ← listed-none p, ← before-none p)
 
   pub scan-agrees : planOf sheet (sheetScan p sheet) ≡ tableAnswer (planChecks sheet p)
-  unfolding scan planChecks fromLists countAt
+  unfolding scan openingBy planChecks fromLists countAt
   scan-agrees =
-      simp append-assoc
-      (taking-checks (planOf sheet) Refuses answer 15 p 1 0 16 _ _ _ λ _ _.
-      taking-checks (planOf sheet) Refuses answer 15 p 2 1 17 _ _ _ λ _ _.
-      taking-checks (planOf sheet) Refuses answer 15 p 1 3 18 _ _ _ λ _ _.
+      ap then (opening-of p 15 (sheet .zones))
+      ∙ simp append-assoc
+      (taking-checks then NoOpening answer 15 p 1 0 16 _ _ _ λ _ _.
+      taking-checks then NoOpening answer 15 p 2 1 17 _ _ _ λ _ _.
+      taking-checks then NoOpening answer 15 p 1 3 18 _ _ _ λ _ _.
       ap (λ (l : Lists). whole (listsFrom p visitorsOf leads (sheet .zones) 0 l (record { at = 4 }))) nothing-yet
       ∙ lists-agree (sheet .zones) 0 0 (omega arith) (late-none answer sheet p))
+    where
+      then : Opening → PlanRead
+      then r = planOf sheet (onOpening Refuses r λ n c. fromLists p (sheet .zones) (sheet .steps) (sheet .zone) (sheet .lane) c)

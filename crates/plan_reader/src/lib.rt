@@ -1,30 +1,38 @@
+// A plan for a sheet read, in one pass.
 use fields::Cursor;
-use fields::Field;
-use fields::one_byte;
-use fields::two_bytes;
-use lists::may_lead;
-use lists::scan_lists;
-use lists::who_visits;
+use opening::Opening;
+use opening::read_opening;
 use plan::Orders;
 use plan::PlanRead;
-use reader::read_sheet;
+use plan_lists::may_lead;
+use plan_lists::scan_lists;
+use plan_lists::who_visits;
 use sheet::blank_sheet;
+use sheet_filling::sheet_of;
+use sheet_filling::step_counts;
+use sheet_reader::Counts;
+use sheet_reader::fill;
+use sheet_table::Table;
 use words::Outcome;
+use words::done;
 use words::refused;
 ghost use mathlib.Core.Path.{_≡_};
 ghost use Prim.Native.Nat.{_<_};
+ghost use lib.ListN.{replicate};
+ghost use Rattle.sheet_table.specs.inner.Parts.{steps, zone, lane};
+ghost use Rattle.sheet_filling.specs.inner.Filled.{sheetIn};
 ghost use Rattle.plan.specs.Reading.{noOrders, planRefused, readPlan};
-ghost use Rattle.lists.specs.Sets.{Routes};
-ghost use Rattle.plan_reader.specs.Scan.{TablesFit, Blank, ReadInto, aheadAt, aheadOf, fromLists, scan};
+ghost use Rattle.plan_lists.specs.inner.Sets.{Routes};
+ghost use Rattle.plan_reader.specs.inner.Scan.{TablesFit, Blank, ordersIn, ReadInto, BothRead, aheadAt, aheadOf, fromLists, scan};
 
 // The carts ahead at x, which is 8 * i + j for step j of cart i: those ahead of it in the list of the step's zone, 0 if there is no such step.
-fn ahead_at(steps: &[u8; 16], zone: &[u8; 128], before: &[u16; 384], x: usize) -> u16
-    requires { ⌜ (x < 128) × Routes (now steps) (now zone) ⌝ }
-    ensures { λ r. ⌜ r ≡ aheadAt (now (steps .entry)) (now (zone .entry)) (now (before .entry)) x ⌝ }
+fn ahead_at(sheet: &Table, before: &[u16; 384], x: usize) -> u16
+    requires { ⌜ (x < 128) × Routes (steps (now sheet)) (zone (now sheet)) ⌝ }
+    ensures { λ r. ⌜ r ≡ aheadAt (steps (now (sheet .entry))) (zone (now (sheet .entry))) (now (before .entry)) x ⌝ }
 {
     let i = x / 8;
-    if x % 8 < steps[i] as usize {
-        let z = zone[x] as usize;
+    if x % 8 < sheet_table::steps(sheet, i) {
+        let z = sheet_table::zone(sheet, x);
         before[16 * z + i]
     } else {
         0
@@ -32,13 +40,13 @@ fn ahead_at(steps: &[u8; 16], zone: &[u8; 128], before: &[u16; 384], x: usize) -
 }
 
 // The carts ahead at each step, put into a blank table.
-fn ahead_of(steps: &[u8; 16], zone: &[u8; 128], before: &[u16; 384], ahead: &mut [u16; 128])
-    requires { ⌜ Routes (now steps) (now zone) × (now ahead ≡ noOrders .ahead) ⌝ }
-    ensures { λ r. ⌜ now (ahead .exit) ≡ aheadOf (now (steps .entry)) (now (zone .entry)) (now (before .entry)) ⌝ }
+fn ahead_of(sheet: &Table, before: &[u16; 384], ahead: &mut [u16; 128])
+    requires { ⌜ Routes (steps (now sheet)) (zone (now sheet)) × (now ahead ≡ noOrders .ahead) ⌝ }
+    ensures { λ r. ⌜ now (ahead .exit) ≡ aheadOf (steps (now (sheet .entry))) (zone (now (sheet .entry))) (now (before .entry)) ⌝ }
 {
     let mut x = 0;
     while x < 128 {
-        ahead[x] = ahead_at(steps, zone, before, x);
+        ahead[x] = ahead_at(sheet, before, x);
         x += 1;
     }
 }
@@ -61,22 +69,23 @@ fn plan_refused(outcome: Outcome) -> PlanRead
 }
 
 // The lists; then no byte may follow (20), and no listed cart has a higher-numbered one of its lane ahead (21).
-fn read_lists<'a>(
+fn read_lists(
     p: &[u8],
     c: Cursor,
     zones: usize,
-    steps: &'a [u8; 16],
-    zone: &'a [u8; 128],
-    lane: &'a [u8; 16],
+    sheet: &Table,
     count: &mut [u8; 24],
     list: &mut [u8; 384],
     ahead: &mut [u16; 128],
 ) -> Outcome
-    requires { ⌜ TablesFit zones (now steps) (now zone) (now lane) × Blank (now count) (now list) (now ahead) ⌝ }
-    ensures { λ r. ⌜ ReadInto (fromLists (now (p .entry)) zones (now (steps .entry)) (now (zone .entry)) (now (lane .entry)) c) r (now (count .exit)) (now (list .exit)) (now (ahead .exit)) ⌝ }
+    requires { ⌜ TablesFit zones (steps (now sheet)) (zone (now sheet)) (lane (now sheet)) × Blank (now count) (now list) (now ahead) ⌝ }
+    ensures { λ r.
+        ⌜ ReadInto (fromLists (now (p .entry)) zones (steps (now (sheet .entry))) (zone (now (sheet .entry))) (lane (now (sheet .entry)))
+        c) r (now (count .exit)) (now (list .exit)) (now (ahead .exit)) ⌝ }
 {
-    let who = who_visits(steps, zone);
-    let lead = may_lead(lane);
+    let steps = step_counts(sheet);
+    let who = who_visits(sheet, &steps);
+    let lead = may_lead(sheet);
     let mut before = [0u16; 384];
     let scan = scan_lists(p, c, zones, &who, &lead, count, list, &mut before);
     let outcome = scan.outcome;
@@ -89,74 +98,69 @@ fn read_lists<'a>(
     if scan.late != 0 {
         return refused(21, scan.late);
     }
-    ahead_of(steps, zone, &before, ahead);
-    Outcome {
-        number: 0,
-        place: 0,
-    }
+    ahead_of(sheet, &before, ahead);
+    done()
 }
 
 // The orders of a plan for a sheet with these zones, routes and lanes, read into blank tables: version, length, zone count, and the lists.
-pub fn read_orders<'a>(
+pub fn read_orders(
     p: &[u8],
     zones: usize,
-    steps: &'a [u8; 16],
-    zone: &'a [u8; 128],
-    lane: &'a [u8; 16],
+    sheet: &Table,
     count: &mut [u8; 24],
     list: &mut [u8; 384],
     ahead: &mut [u16; 128],
 ) -> Outcome
-    requires { ⌜ TablesFit zones (now steps) (now zone) (now lane) × Blank (now count) (now list) (now ahead) ⌝ }
-    ensures { λ r. ⌜ ReadInto (scan (now (p .entry)) zones (now (steps .entry)) (now (zone .entry)) (now (lane .entry))) r (now (count .exit)) (now (list .exit)) (now (ahead .exit)) ⌝ }
+    requires { ⌜ TablesFit zones (steps (now sheet)) (zone (now sheet)) (lane (now sheet)) × Blank (now count) (now list) (now ahead) ⌝ }
+    ensures { λ r.
+        ⌜ ReadInto (scan (now (p .entry)) zones (steps (now (sheet .entry))) (zone (now (sheet .entry))) (lane (now (sheet .entry)))) r
+        (now (count .exit)) (now (list .exit)) (now (ahead .exit)) ⌝ }
 {
-    let Field::Value(version, c) = one_byte(p, Cursor { at: 0 }) else {
-        return refused(15, 0);
-    };
-    if version != 1 {
-        return refused(16, 0);
+    let opening = read_opening(p, 15, zones, zones);
+    match opening {
+        Opening::Refused(outcome) => outcome,
+        Opening::Zones(n, c) => read_lists(p, c, zones, sheet, count, list, ahead),
     }
-    let Field::Value(total, c2) = two_bytes(p, c) else {
-        return refused(15, c.at);
-    };
-    if total as usize != p.len() {
-        return refused(17, c.at);
+}
+
+// A sheet and a plan for it read into blank tables, the sheet fully before the plan: the counts with number 0, or the first of checks 1 to 21 that fails.
+// Reading a plan, judging and requests all begin so.
+pub fn read_tables(
+    s: &[u8],
+    p: &[u8],
+    sheet: &mut Table,
+    count: &mut [u8; 24],
+    list: &mut [u8; 384],
+    ahead: &mut [u16; 128],
+) -> Counts
+    requires { ⌜ (now sheet ≡ replicate 480 0) × Blank (now count) (now list) (now ahead) ⌝ }
+    ensures { λ r.
+        ⌜ BothRead (now (s .entry)) (now (p .entry)) (sheetIn (r .zones) (r .carts) (now (sheet .exit)))
+        (ordersIn (now (count .exit)) (now (list .exit)) (now (ahead .exit))) (r .outcome) ⌝ }
+{
+    let mut counts = fill(s, sheet);
+    let refusal = counts.outcome;
+    if refusal.number != 0 {
+        return counts;
     }
-    let Field::Value(n, c3) = one_byte(p, c2) else {
-        return refused(15, c2.at);
-    };
-    if n as usize != zones {
-        return refused(18, c2.at);
-    }
-    read_lists(p, c3, zones, steps, zone, lane, count, list, ahead)
+    counts.outcome = read_orders(p, counts.zones, sheet, count, list, ahead);
+    counts
 }
 
 // A plan for a sheet, for every two byte strings: done with the sheet and the orders, or the first of checks 1 to 21 that fails.
 pub fn read_plan(s: &[u8], p: &[u8]) -> PlanRead
     ensures { λ r. ⌜ r ≡ readPlan (now (s .entry)) (now (p .entry)) ⌝ }
 {
-    let read = read_sheet(s);
-    let refusal = read.outcome;
-    if refusal.number != 0 {
-        return plan_refused(refusal);
-    }
+    let mut table = [0u32; 480];
     let mut count = [0u8; 24];
     let mut list = [0u8; 384];
     let mut ahead = [0u16; 128];
-    let outcome = read_orders(
-        p,
-        read.sheet.zones,
-        &read.sheet.steps,
-        &read.sheet.zone,
-        &read.sheet.lane,
-        &mut count,
-        &mut list,
-        &mut ahead,
-    );
+    let read = read_tables(s, p, &mut table, &mut count, &mut list, &mut ahead);
+    let outcome = read.outcome;
     if outcome.number != 0 {
         return plan_refused(outcome);
     }
-    let sheet = read.sheet;
+    let sheet = sheet_of(read.zones, read.carts, &table);
     let orders = Orders { count, list, ahead };
     PlanRead {
         outcome,

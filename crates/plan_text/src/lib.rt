@@ -2,12 +2,12 @@
 use libc::STDOUT_FILENO;
 use plan_reader::read_plan;
 use plan_writer::write_again;
+use plan_zone_list::find_list;
+use plan_zone_list::passing_list;
 use sheet::Sheet;
-use show::end_line;
-use show::put;
-use show::put_refusal;
-use zone_list::find_list;
-use zone_list::passing_list;
+use sheet_text::end_line;
+use sheet_text::put;
+use sheet_text::put_refusal;
 ghost use Prim.Native.Nat.{_≤_};
 
 fn say(text: &[u8]) {

@@ -22,7 +22,8 @@ use Rattle.plan.proofs.Readable.{readable-whole, readable-sheet, readable-valid
 use Rattle.plan.proofs.Visitors.{visitors-most}
 use Rattle.plan.proofs.Lists.{listed-cart}
 use Rattle.plan.proofs.RoundTrip.{written-length}
-use Rattle.plan_writer.specs.Writing.{lent, Writable, notWritten, writeAgain, roomAfter}
+use Rattle.plan_writer.specs.Writing.{notWritten, writeAgain, roomAfter}
+use Rattle.plan_writer.specs.inner.Writing.{lent, Writable}
 
 -- what is written is told by the counts and lists alone
 pub lent-written : (n : ℕ) (orders : Orders) → written n (lent (orders .count) (orders .list)) ≡ written n orders

@@ -1,5 +1,5 @@
--- Writing a plan from orders into lent room.
-use Prim.Native.Nat.{ℕ, _+_, _≤_, _<_}
+-- A plan read, and written again into lent room.
+use Prim.Native.Nat.{ℕ}
 use mathlib.Core.List.{List, [], _∷_, _++_}
 use lib.ListN.{length, drop}
 use lib.Dec.{leb}
@@ -8,26 +8,8 @@ use Rattle.words.specs.declared.Outcome.{Outcome}
 use Rattle.sheet.specs.Reading.{sheetOf}
 use Rattle.plan.specs.Reading.{ordersOf, readingChecks}
 use Rattle.plan.specs.Valid.{planLength}
-use Rattle.plan.specs.Written.{count, listed, written}
-use Rattle.plan.specs.declared.Orders.{Orders}
+use Rattle.plan.specs.Written.{written}
 use Rattle.plan_writer.specs.declared.PlanWritten.{PlanWritten}
-
--- the counts and lists of orders, lent
-abbrev pub lent : List ℕ → List ℕ → Orders
-lent count list = record { count = count; list = list; ahead = [] }
-
--- a zone's list of at most 16 carts, each a byte
-pub record WritableList (orders : Orders) (z : ℕ) : Type 0 where
-  pub few : count orders z ≤ 16
-  pub byte : (k : ℕ) → k < count orders z → listed orders z k < 256
-
--- the orders of n zones, and a room that is long enough for their plan
-pub record Writable (n : ℕ) (orders : Orders) (room : List ℕ) : Type 0 where
-  pub zones : n ≤ 24
-  pub list : (z : ℕ) → z < n → WritableList orders z
-  pub fits : length (written n orders) ≤ length room
-
--- ---- writing it again
 
 -- "writing it again 1 to 21 and 28": "Planning and writing need exactly the plan's length in room"
 abbrev pub writingChecks : List ℕ → List ℕ → ℕ → List Check

@@ -1,3 +1,4 @@
+// Orders written as a plan into lent room, and a plan read and written again.
 use plan::sum_of;
 use plan_reader::read_plan;
 use words::Outcome;
@@ -7,7 +8,8 @@ ghost use Prim.Native.Nat.{_+_, _≤_, _<_};
 ghost use lib.ListN.{length, getD};
 ghost use lib.Seq.{sets};
 ghost use Rattle.plan.specs.Written.{listBytes, written};
-ghost use Rattle.plan_writer.specs.Writing.{lent, Writable, WritableList, notWritten, writeAgain, roomAfter};
+ghost use Rattle.plan_writer.specs.Writing.{notWritten, writeAgain, roomAfter};
+ghost use Rattle.plan_writer.specs.inner.Writing.{lent, Writable, WritableList};
 
 // Zone z's list, written from a place on.
 fn write_list<'a>(

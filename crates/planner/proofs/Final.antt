@@ -10,28 +10,29 @@ use Rattle.times.specs.Times.{largest, Given, finish}
 use Rattle.times.proofs.Rules.{times-keep}
 use Rattle.sheet.specs.Valid.{Valid}
 use Rattle.sheet.specs.declared.Sheet.{Sheet}
-use Rattle.lists.specs.Sets.{whoVisits}
+use Rattle.plan_lists.specs.inner.Sets.{whoVisits}
 use Rattle.plan_reader.proofs.ValidLaws.{valid-routes}
-use Rattle.crossing.specs.Tables.{crossingOf, sheetCrossing, sheetGiven}
-use Rattle.crossing.specs.Sound.{Sound}
-use Rattle.entering.specs.Times.{timesOf}
-use Rattle.finish.specs.Finish.{lastLeaving}
-use Rattle.finish.proofs.Finish.{finish-is}
-use Rattle.running.specs.Settled.{SettlesAs}
-use Rattle.running.proofs.Verdict.{settled-times}
+use Rattle.crossing.specs.inner.Tables.{crossingBy, sheetCrossing}
+use Rattle.crossing.specs.Plans.{sheetGiven}
+use Rattle.crossing.specs.inner.Sound.{Sound}
+use Rattle.judge_entering.specs.Times.{timesOf}
+use Rattle.judge_finish.specs.inner.Finish.{lastLeaving}
+use Rattle.judge_finish.proofs.Finish.{finish-is}
+use Rattle.judge_running.specs.inner.Settled.{SettlesAs}
+use Rattle.judge_running.proofs.Verdict.{settled-times}
 use Rattle.removal.specs.Pairs.{Unplanned}
-use Rattle.removal.specs.Running.{movesMade, isOut, enteringTime}
+use Rattle.times.specs.Running.{movesMade, isOut, enteringTime}
 use Rattle.removal.specs.Removal.{decisions, finalOrders, plannedLists}
 use Rattle.removal.proofs.Spare.{finish-same}
 use Rattle.removal.proofs.Final.{final-out, final-strict}
-use Rattle.orders_present.proofs.Sheets.{sheet-plannable}
-use Rattle.orders_present.proofs.Settled.{present-system, present-sound, present-out, present-times}
-use Rattle.passing_lists.specs.Places.{Placeable, Listed}
-use Rattle.passing_lists.specs.declared.PassingLists.{PassingLists}
-use Rattle.passing_lists.proofs.Lists.{strict-placeable, lists-are}
-use Rattle.solving.specs.Final.{FinalOrders}
+use Rattle.planner_orders.proofs.Sheets.{sheet-plannable}
+use Rattle.planner_orders.proofs.Settled.{present-system, present-sound, present-out, present-times}
+use Rattle.planner_lists.specs.inner.Places.{Placeable, Listed}
+use Rattle.planner_lists.specs.declared.PassingLists.{PassingLists}
+use Rattle.planner_lists.proofs.Lists.{strict-placeable, lists-are}
+use Rattle.planner_solving.specs.inner.Final.{FinalOrders}
 use Rattle.planner.specs.Planning.{unplanned, ordersBy, plannedOrders, planned}
-use Rattle.planner.specs.Lists.{listsPlanned}
+use Rattle.planner.specs.inner.Lists.{listsPlanned}
 
 module _ (sheet : Sheet) (v : Valid sheet) {ahead : List ℕ} (final : FinalOrders sheet ahead) where
   abbrev U : Unplanned
@@ -66,7 +67,7 @@ module _ (sheet : Sheet) (v : Valid sheet) {ahead : List ℕ} (final : FinalOrde
         present-out _ _ _ _ _ _ _ _ _ _ _ _ _ _ _ _ (final .holds) at left enter order made settled .0 out ∙ ap (λ (S : System). S .out) (sym same)
 
     finish-told : largest (lastLeaving (sheet .steps) (sheet .passing) enter) 16 ≡ planned sheet .finish
-    unfolding finalOrders planned finish crossingOf
+    unfolding finalOrders planned finish crossingBy
     finish-told =
         finish-is (sheet .steps) (sheet .zone) ahead (sheet .lane) (sheet .arrival) (sheet .passing) (sheet .travel) (sheet .follow) (sheet .cross) enter
         (times-keep X G (final-sound .only) (timesOf enter) (settled-times X G at left enter order made settled all-out))

@@ -9,12 +9,13 @@ use Rattle.words.specs.Checks.{firstFailing}
 use Rattle.words.proofs.First.{pass-answers}
 use Rattle.words.proofs.Entries.{length-entries}
 use Rattle.moves.specs.System.{System, start}
-use Rattle.moves.specs.Runs.{AllComeOut}
+use Rattle.moves.specs.inner.Runs.{AllComeOut}
 use Rattle.routes.specs.Crossing.{Crossing}
 use Rattle.routes.specs.Moves.{system}
-use Rattle.routes.specs.Orders.{OnlyVisitors}
+use Rattle.routes.specs.inner.Orders.{OnlyVisitors}
 use Rattle.routes.specs.Plans.{plan}
-use Rattle.times.specs.Times.{Given, finish, EnteringTimes}
+use Rattle.times.specs.Times.{Given, finish}
+use Rattle.times.specs.inner.Times.{EnteringTimes}
 use Rattle.times.proofs.Finish.{finish-unique}
 use Rattle.times.proofs.SameOrders.{system-same, entering-orders}
 use Rattle.sheet.specs.Reading.{sheetDone, sheetOf, readSheet}
@@ -28,19 +29,19 @@ use Rattle.plan.specs.declared.PlanRead.{PlanRead}
 use Rattle.plan.proofs.Readable.{readable-whole}
 use Rattle.plan.proofs.Further.{further-read}
 use Rattle.plan.proofs.RoundTrip.{written-length, written-readable}
-use Rattle.crossing.specs.Tables.{givenOf, sheetGiven}
+use Rattle.crossing.specs.Plans.{givenBy, sheetGiven}
 use Rattle.crossing.specs.Plans.{routesOf, listsOf, planCrossing}
 use Rattle.judge.specs.Judging as judging
 use Rattle.judge.specs.declared.Judged.{Judged}
 use Rattle.judge.proofs.Verdict.{accepts-out}
 use Rattle.judge.proofs.Words.{judged-times}
 use Rattle.removal.specs.Pairs.{Unplanned}
-use Rattle.removal.specs.Plannable.{Plannable}
+use Rattle.removal.specs.inner.Plannable.{Plannable}
 use Rattle.removal.specs.Removal.{decisions, finalOrders, passingLists, plannedLists}
-use Rattle.removal.proofs.Running.{out-says, allMade, entering-made}
+use Rattle.times.proofs.Running.{out-says, allMade, entering-made}
 use Rattle.removal.proofs.Final.{final-both, final-out}
 use Rattle.removal.proofs.Planned.{planned-complete, planned-orders, planned-lane}
-use Rattle.orders_present.proofs.Sheets.{sheet-plannable}
+use Rattle.planner_orders.proofs.Sheets.{sheet-plannable}
 use Rattle.planner.specs.Planning.{unplanned, plannedOrders, planned}
 use Rattle.planner.proofs.Orders.{lists-are, orders-valid}
 
@@ -60,7 +61,7 @@ module _ (sheet : Sheet) (v : Valid sheet) where
   -- ---- the orders
 
   pub planned-valid : ValidOrders sheet orders
-  unfolding plannedOrders givenOf
+  unfolding plannedOrders givenBy
   planned-valid = orders-valid sheet v (plannedLists U) (planned-complete U able) (planned-lane U able)
 
   planned-lists : listsOf sheet orders ≡ plannedLists U
@@ -105,7 +106,7 @@ module _ (sheet : Sheet) (v : Valid sheet) where
   judged-final : EnteringTimes F G (judging.enteringTime sheet orders)
   unfolding finalOrders
   judged-final c s h =
-      (rw planned-crossing at (judged-times sheet orders v planned-valid planned-accepted)) c s h
+      subst (λ (X : Crossing). EnteringTimes X G (judging.enteringTime sheet orders)) planned-crossing (judged-times sheet orders v planned-valid planned-accepted) c s h
       ∙ entering-orders (routesOf sheet) (plan (routesOf sheet) (plannedLists U) .before) (F .before) (planned-orders U able) G
       (judging.enteringTime sheet orders) c s h
 

@@ -15,8 +15,10 @@ use Rattle.words.proofs.Tables.{used-entry, unused-entry, row-at, column-at, us
 use Rattle.sets.specs.Counting.{setBelow}
 use Rattle.sets.proofs.Counting.{count-same}
 use Rattle.moves.proofs.Search.{any-says}
-use Rattle.routes.specs.Lists.{Named, isNamed, isAhead}
-use Rattle.routes.specs.Plans.{listOf, Complete}
+use Rattle.routes.specs.Lists.{isNamed, isAhead}
+use Rattle.routes.specs.inner.Lists.{Named}
+use Rattle.routes.specs.Plans.{listOf}
+use Rattle.routes.specs.inner.Plans.{Complete}
 use Rattle.routes.proofs.Places.{named-says}
 use Rattle.sheet.specs.Valid.{lane, steps, zone, Valid}
 use Rattle.sheet.specs.declared.Sheet.{Sheet}
@@ -25,7 +27,7 @@ use Rattle.plan.specs.Written.{count, listed}
 use Rattle.plan.specs.Valid.{passingList, ahead, Shaped, ValidEntry, ValidOrders}
 use Rattle.plan.specs.declared.Orders.{Orders}
 use Rattle.plan.proofs.Visitors.{count-values, visitors-most, step-cart, step-valid, steps-most, visitor-cart}
-use Rattle.crossing.specs.Tables.{crossingOf}
+use Rattle.crossing.specs.inner.Tables.{crossingBy}
 use Rattle.crossing.specs.Plans.{routesOf, listsOf}
 use Rattle.crossing.proofs.Tables.{steps-is, zone-is}
 use Rattle.crossing.proofs.Sheets.{step-is}
@@ -34,7 +36,7 @@ use Rattle.planner.specs.Planning.{ordersBy}
 module _ (sheet : Sheet) (v : Valid sheet) where
   -- the route of a cart names the zones that it visits
   route-visits : (c z : ℕ) → (visits sheet c z ≡ true) ↔ Named (getD (routesOf sheet) c []) z
-  unfolding crossingOf
+  unfolding crossingBy
   route-visits c z = (
     λ e.
         let (j, h, at) = says .0 e in
@@ -48,7 +50,7 @@ module _ (sheet : Sheet) (v : Valid sheet) where
       says = any-says _ (steps sheet c) (λ j. zone sheet c j ≡ z) (λ j. eqb-says (zone sheet c j) z)
 
   route-zone : (c z : ℕ) → Named (getD (routesOf sheet) c []) z → z < sheet .zones
-  unfolding crossingOf
+  unfolding crossingBy
   route-zone c z (j, h, at) = let (below, there) = step-is sheet v [] c j h in omega (arith, step-valid sheet v c j below .zone-below)
 
   module _ (lists : List (List ℕ)) (full : Complete (routesOf sheet) lists) where

@@ -5,5 +5,5 @@ use libc::STDIN_FILENO;
 fn main() {
     let mut sheet = io::large_buffer();
     let n = io::read_full(STDIN_FILENO, &mut sheet);
-    show::show_sheet(&sheet[..n]);
+    sheet_text::show_sheet(&sheet[..n]);
 }

@@ -26,7 +26,7 @@ fn blank_line(number: u64) -> Line {
 }
 
 fn name(kind: &[u8], number: u64) {
-    show::put(kind, number);
+    sheet_text::put(kind, number);
     io::write_all(STDOUT_FILENO, b":\n");
 }
 
@@ -46,7 +46,7 @@ fn show_line(line: Line, sheet: &[u8], plan: &[u8]) {
             plan_text::show_plan(s, p);
             judge_text::show_judged(s, p);
         } else {
-            show::show_sheet(s);
+            sheet_text::show_sheet(s);
         }
     }
 }

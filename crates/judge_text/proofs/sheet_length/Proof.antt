@@ -2,7 +2,7 @@
 use mathlib.Core.Path.{sym, _∙_}
 use native.Mathlib.Nat.{le-refl}
 use borrow.Author.Tests.{le-leb, lt-leb}
-use Rattle.judge_text.specs.Input.{sheetLength}
+use Rattle.judge_text.specs.inner.Input.{sheetLength}
 use borrow.Author.Needs.{needs}
 use Rattle.judge_text.proofs.sheet_length.Statement.{statement}
 use Rattle.judge_text.proofs.sheet_length.Tie as tie

@@ -3,7 +3,7 @@ use Prim.Native.Nat.{_-_}
 use mathlib.Core.Path.{sym, _∙_}
 use native.Mathlib.Omega.{arith}
 use lib.ListN.{length-set}
-use Rattle.plan_writer.specs.Writing.{lent}
+use Rattle.plan_writer.specs.inner.Writing.{lent}
 use Rattle.plan_writer.proofs.WritingLaws.{written-length, store-head, Storing, storing-start, storing-room, storing-turn, storing-end}
 use borrow.Author.Needs.{needs}
 use Rattle.plan_writer.proofs.write_plan.Statement.{statement}

@@ -1,0 +1,2 @@
+pub mod OneCart
+pub mod Turns

@@ -1,0 +1,106 @@
+// One permitted move over tables, in parts: whether a zone may be entered, on into it, and out; what each makes of sets and times.
+use judge_entering::enter_zone;
+use sets::carts;
+use sheet_table::Table;
+use sheet_table::wide;
+ghost use mathlib.Core.Path.{_≡_};
+ghost use mathlib.Core.Logic.{_↔_};
+ghost use mathlib.Core.Bool.{true};
+ghost use Prim.Native.Nat.{_<_, _+_};
+ghost use lib.ListN.{length, getD};
+ghost use Rattle.sets.specs.inner.Member.{Within};
+ghost use Rattle.moves.specs.Moves.{Permitted};
+ghost use Rattle.routes.specs.Moves.{system};
+ghost use Rattle.sheet_table.specs.inner.Parts.{zone, passing};
+ghost use Rattle.crossing.specs.inner.Tables.{crossingOf};
+ghost use Rattle.judge_one_move.specs.inner.Standing.{Standing};
+ghost use Rattle.judge_one_move.specs.inner.Running.{Joins, ZoneLeft, CanGoOn, GoneOn, CanGoOut};
+
+// Cart c joins the set of the carts that have left zone z.
+pub fn join(left: &mut [u16; 24], z: usize, c: usize)
+    requires { ⌜ (z < 24) × (c < 16) × (length (now left) ≡ 24) ⌝ }
+    ensures { λ r. ⌜ Joins (now (left .entry)) (now (left .exit)) z c × (length (now (left .exit)) ≡ 24) ⌝ }
+{
+    left[z] = carts::with(left[z], c);
+}
+
+// Cart c leaves zone z at a time.
+fn leave_zone(left: &mut [u16; 24], leave: &mut [u32; 384], z: usize, c: usize, time: u32)
+    requires { ⌜ (z < 24) × (c < 16) × (length (now left) ≡ 24) ⌝ }
+    ensures { λ r. ⌜ ZoneLeft (now (left .entry)) (now (leave .entry)) (now (left .exit)) (now (leave .exit)) z c time ⌝ }
+{
+    join(left, z, c);
+    leave[16 * z + c] = time;
+}
+
+// Whether all carts ahead of the step at x have left its zone.
+pub fn may_enter(sheet: &Table, ahead: &[u16; 128], left: &[u16; 24], x: usize) -> bool
+    requires { ⌜ (x < 128) × (getD (zone (now sheet)) x 0 < 24) ⌝ }
+    ensures { λ r. ⌜ (r ≡ true) ↔ Within (getD (now (ahead .entry)) x 0) (getD (now (left .entry)) (getD (zone (now (sheet .entry))) x 0) 0) ⌝ }
+{
+    let z = sheet_table::zone(sheet, x);
+    carts::within(ahead[x], left[z])
+}
+
+// Whether the next move of cart c is permitted: into a zone that all carts ahead have left, or out.
+pub fn may_move(
+    sheet: &Table,
+    ahead: &[u16; 128],
+    at: &[u8; 16],
+    left: &[u16; 24],
+    c: usize,
+) -> bool
+    requires { ⌜ Standing (crossingOf (now sheet) (now ahead)) (now at) (now left) × (c < 16) ⌝ }
+    ensures { λ r. ⌜ (r ≡ true) ↔ Permitted (system (crossingOf (now (sheet .entry)) (now (ahead .entry)))) (now (at .entry)) c ⌝ }
+{
+    let k = sheet_table::steps(sheet, c);
+    let p = wide(at[c]);
+    if p < k {
+        return may_enter(sheet, ahead, left, 8 * c + p);
+    }
+    if k == 0 {
+        return false;
+    }
+    p == k
+}
+
+// Cart c goes from the zone of its step at x - 1 into that of its step at x.
+pub fn move_on(
+    sheet: &Table,
+    ahead: &[u16; 128],
+    same: &[u16; 16],
+    left: &mut [u16; 24],
+    leave: &mut [u32; 384],
+    enter: &mut [u32; 128],
+    c: usize,
+    x: usize,
+)
+    requires { ⌜ CanGoOn (now sheet) (now same) (now left) (now leave) (now enter) c x ⌝ }
+    ensures { λ r.
+        ⌜ GoneOn (now (sheet .entry)) (now (ahead .entry)) (now (left .entry)) (now (leave .entry)) (now (enter .entry)) (now (left .exit))
+        (now (leave .exit)) (now (enter .exit)) c x ⌝ }
+{
+    let w = x - 1;
+    let travel = sheet_table::travel(sheet, w);
+    let ready = enter[w] + sheet_table::passing(sheet, w) + travel;
+    let time = enter_zone(sheet, ahead, same, leave, enter, x, c, ready);
+    leave_zone(left, leave, sheet_table::zone(sheet, w), c, time - travel);
+}
+
+// Cart c goes out of the zone of its last step, at x.
+pub fn move_out(
+    sheet: &Table,
+    left: &mut [u16; 24],
+    leave: &mut [u32; 384],
+    enter: &[u32; 128],
+    c: usize,
+    x: usize,
+)
+    requires { ⌜ CanGoOut (now sheet) (now left) (now enter) c x ⌝ }
+    ensures { λ r.
+        ⌜ ZoneLeft (now (left .entry)) (now (leave .entry)) (now (left .exit)) (now (leave .exit)) (getD (zone (now (sheet .entry))) x 0) c
+        (getD (now (enter .entry)) x 0 + getD (passing (now (sheet .entry))) x 0) ⌝ }
+{
+    let time = enter[x] + sheet_table::passing(sheet, x);
+    leave_zone(left, leave, sheet_table::zone(sheet, x), c, time);
+}

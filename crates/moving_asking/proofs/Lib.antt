@@ -1,0 +1,4 @@
+pub mod Counted
+pub mod Ahead
+pub mod Request
+pub mod AskLaws

@@ -1,0 +1,165 @@
+-- A request under a readable plan: each test fails or passes, and what is answered then.
+use Prim.Native.Nat.{ℕ, _+_, _≤_, _<_}
+use mathlib.Core.Path.{_≡_, refl, sym, ap, _∙_}
+use mathlib.Core.Logic.{_↔_}
+use mathlib.Core.Bool.{Bool, true, false, not-eq-not, false≢true}
+use native.Mathlib.Decide.{decLt}
+use native.Mathlib.Omega.{arith}
+use lib.ListN.{getD}
+use borrow.Author.Tests.{lt-ltb, le-ltb}
+use Rattle.words.specs.Checks.{refused, firstFailing}
+use Rattle.moves.specs.System.{System, pos}
+use Rattle.moves.specs.Moves.{Permitted, isPermitted}
+use Rattle.moves.proofs.Moves.{permitted-says}
+use Rattle.routes.specs.Crossing.{Crossing, steps, zone}
+use Rattle.routes.specs.Moves.{movesOf, system}
+use Rattle.routes.proofs.Moves.{moves-some}
+use Rattle.crossing.specs.inner.Tables.{sheetCrossing}
+use Rattle.crossing.specs.Plans.{sheetGiven}
+use Rattle.crossing.specs.inner.Sound.{Sound}
+use Rattle.crossing.proofs.Tables.{steps-is}
+use Rattle.crossing.proofs.Permitted.{out-permitted}
+use Rattle.crossing.proofs.Plans.{plan-sound, plan-system}
+use Rattle.sheet.specs.Valid as valid
+use Rattle.sheet.specs.Valid.{Valid}
+use Rattle.sheet.specs.declared.Sheet.{Sheet}
+use Rattle.plan.specs.Valid.{ValidOrders}
+use Rattle.plan.specs.declared.Orders.{Orders}
+use Rattle.plan.proofs.Visitors.{step-valid, steps-most}
+use Rattle.judge_one_move.specs.inner.Standing.{Standing}
+use Rattle.judge_ring.specs.Ring.{isNotOut}
+use Rattle.moving_record.specs.Record.{isReached}
+use Rattle.moving_record.specs.inner.Tables.{Orderly, TestedAs}
+use Rattle.moving_record.specs.declared.Record.{Record}
+use Rattle.moving_record.specs.declared.Tested.{Tested}
+use Rattle.moving_record.proofs.Few.{reached-few}
+use Rattle.judge.specs.Judging.{planSystem, isOut}
+use Rattle.judge.proofs.Verdict.{out-at}
+use Rattle.moving_asking.specs.inner.Tables.{WantsZone, notGone, noMove}
+use Rattle.moving_asking.specs.Asking.{hasMoved}
+use Rattle.moving_asking.specs.inner.Held.{askOf}
+use Rattle.moving_asking.proofs.Ahead.{ahead-counted}
+
+module _ (sheet : Sheet) (orders : Orders) (v : Valid sheet) (w : ValidOrders sheet orders) where
+  abbrev X : Crossing
+  X = sheetCrossing sheet (orders .ahead)
+
+  abbrev S : System
+  S = planSystem sheet orders
+
+  sound : Sound X (sheetGiven sheet)
+  sound = plan-sound sheet v orders w
+
+  pub sheet-orderly : Orderly (sheet .steps) (sheet .zone) (orders .ahead)
+  sheet-orderly = record {
+    steps-16 = v .shaped .steps-16;
+    once = sound .once;
+    only = sound .only;
+    zone-below = sound .zone-below;
+    steps-most = sound .ranged .steps-most;
+  }
+
+  module _ (lent : Record) (cart : ℕ) where
+    pub locked-is : isOut sheet orders ≡ false → noMove (refused 22 0) 0 ≡ askOf sheet orders lent cart
+    unfolding firstFailing
+    locked-is locked = rw locked
+
+    module _ (out : isOut sheet orders ≡ true) (tested : Tested) (test : TestedAs X lent tested) where
+      reached-is : tested .reached ≡ isReached S lent
+      reached-is = test .reached-is ∙ ap (λ (T : System). isReached T lent) (plan-system sheet v orders w)
+
+      pub unreached-is : tested .reached ≡ false → noMove (refused 23 0) 0 ≡ askOf sheet orders lent cart
+      unfolding firstFailing
+      unreached-is none = rw (out, sym reached-is ∙ none)
+
+      module _ (reached : tested .reached ≡ true) where
+        is-reached : isReached S lent ≡ true
+        is-reached = sym reached-is ∙ reached
+
+        pub made-few : lent .made ≤ 144
+        made-few = reached-few (sheet .steps) (sheet .zone) (orders .ahead) sheet-orderly lent (sym (test .reached-is) ∙ reached)
+
+        pub absent-is : sheet .carts ≤ cart → noMove (refused 24 0) 0 ≡ askOf sheet orders lent cart
+        unfolding firstFailing
+        absent-is past = rw (out, is-reached, le-ltb cart (sheet .carts) past)
+
+        pub tested-standing : Standing X (lent .position) (tested .left)
+        tested-standing = record {
+          once = sound .once;
+          only = sound .only;
+          zone-below = sound .zone-below;
+          steps-most = sound .ranged .steps-most;
+          left-is = test .left-is reached;
+        }
+
+        module _ (present : cart < sheet .carts) where
+          pub cart-few : cart < 16
+          cart-few = omega (arith, v .carts-most)
+
+          -- where the cart stands, and how many steps it has
+          abbrev p : ℕ
+          p = getD (lent .position) cart 0
+
+          abbrev k : ℕ
+          k = getD (sheet .steps) cart 0
+
+          out-is : pos (S .out) cart ≡ movesOf k
+          out-is = out-at sheet orders cart cart-few
+
+          out-past : movesOf k ≡ k + 1
+          out-past = moves-some k (λ e. omega (arith, v .cart cart present .steps-least, e))
+
+          pub already-is : k < p → noMove (refused 25 0) 0 ≡ askOf sheet orders lent cart
+          unfolding firstFailing
+          already-is past = rw (out, is-reached, lt-ltb cart (sheet .carts) present, le-ltb p (pos (S .out) cart) (omega (arith, out-past, out-is)))
+
+          module _ (inside : p ≤ k) where
+            not-out : isNotOut S (lent .position) cart ≡ true
+            not-out = lt-ltb p (pos (S .out) cart) (omega (arith, out-past, out-is))
+
+            pub place-few : p ≤ 8
+            place-few = omega (arith, v .cart cart present .steps-most)
+
+            module _ (may : Bool) (says : (may ≡ true) ↔ Permitted (system X) (lent .position) cart) where
+              permitted-is : isPermitted S (lent .position) cart ≡ may
+              permitted-is = go may refl
+                where
+                  same : system X ≡ S
+                  same = plan-system sheet v orders w
+
+                  go : (b : Bool) → may ≡ b → isPermitted S (lent .position) cart ≡ b
+                  go true e = permitted-says S (lent .position) cart .1 (rw same at (says .0 e))
+                  go false e = not-eq-not {b = false} .0 (λ t. false≢true (sym e ∙ says .1 (rw same (permitted-says S (lent .position) cart .0 t))))
+
+              pub moved-is : may ≡ true → hasMoved lent cart ≡ askOf sheet orders lent cart
+              unfolding firstFailing
+              moved-is e = rw (out, is-reached, lt-ltb cart (sheet .carts) present, not-out, permitted-is ∙ e)
+
+              module _ (held : may ≡ false) where
+                -- the move out is always permitted, so the cart wants a zone
+                wants : p < k
+                wants = go (decLt p k)
+                  where
+                    counted : steps X cart ≡ k
+                    counted = steps-is (sheet .steps) (sheet .zone) (orders .ahead) cart cart-few
+
+                    go : Dec (p < k) → p < k
+                    go (yes h) = h
+                    go (no n) =
+                        let m = out-permitted (sheet .steps) (sheet .zone) (orders .ahead) (sound .once) (sound .only) (lent .position) cart cart-few
+                        (omega (arith, counted, v .cart cart present .steps-least)) (omega (arith, n, inside, counted)) in
+                        absurd (false≢true (sym held ∙ says .1 m))
+
+                pub held-wanting : WantsZone (sheet .zone) (lent .position) cart
+                held-wanting = record {
+                  cart = cart-few;
+                  step = omega (arith, wants, v .cart cart present .steps-most);
+                  known = omega (arith, step-valid sheet v cart p wants .zone-below, v .zones-most);
+                }
+
+                pub held-is : (n : ℕ) → n ≡ notGone (sheet .zone) (orders .ahead) (lent .position) (tested .left) cart
+                    → noMove (refused 26 0) n ≡ askOf sheet orders lent cart
+                unfolding firstFailing
+                held-is n is =
+                    let counted = is ∙ ahead-counted sheet v orders w (lent .position) cart cart-few wants _ (test .left-is reached (valid.zone sheet cart p)) in
+                    rw (out, is-reached, lt-ltb cart (sheet .carts) present, not-out, permitted-is ∙ held) (ap (noMove (refused 26 0)) counted)

@@ -1,0 +1,3 @@
+pub mod Ahead
+pub mod Asking
+pub mod inner

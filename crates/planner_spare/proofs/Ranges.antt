@@ -1,0 +1,36 @@
+-- The ranges of a step's spare time: nothing is left after the finish, and nothing is spared past it.
+use Prim.Native.Nat.{ℕ, _+_, _*_, _-_, _≤_, _<_}
+use mathlib.Core.Path.{_≡_}
+use mathlib.Core.Bool.{Bool, true, false}
+use mathlib.Core.List.{List}
+use native.Mathlib.Nat.{le-trans}
+use native.Mathlib.Omega.{arith}
+use lib.ListN.{getD}
+use lib.Dec.{ltb}
+use borrow.Author.Tests.{ne-eqb}
+use Rattle.words.specs.Lists.{pick}
+use Rattle.sets.specs.inner.Member.{has}
+use Rattle.judge_entering.specs.inner.Times.{AtMost}
+use Rattle.judge_finish.specs.inner.Finish.{lastLeaving}
+use Rattle.planner_spare.specs.inner.Steps.{spareIn, aloneIn, leastIn}
+use Rattle.planner_spare.proofs.Least.{least-base}
+
+-- a last step is left by the finish
+pub last-by-finish : (stepTable passing enter : List ℕ) (c j finishing : ℕ) → j < getD stepTable c 0 → getD stepTable c 0 ≤ j + 1
+    → lastLeaving stepTable passing enter c ≤ finishing → getD enter (8 * c + j) 0 + getD passing (8 * c + j) 0 ≤ finishing
+last-by-finish stepTable passing enter c j finishing h last left =
+    let at : getD stepTable c 0 - 1 ≡ j = omega arith in
+    rw (ne-eqb (getD stepTable c 0) 0 (λ e. omega arith), at) at left
+
+pub least-most : (stepTable zoneTable passing behind visit enter spare : List ℕ) (finishing c j : ℕ) → AtMost finishing spare
+    → leastIn stepTable zoneTable passing behind visit enter spare finishing c j ≤ finishing
+least-most stepTable zoneTable passing behind visit enter spare finishing c j most =
+    le-trans (least-base (has (getD behind (8 * c + j) 0)) (spareIn visit spare (getD zoneTable (8 * c + j) 0)) (aloneIn stepTable passing enter spare finishing c j) 16)
+    (go (ltb (j + 1) (getD stepTable c 0)))
+  where
+    time : ℕ
+    time = getD enter (8 * c + j) 0 + getD passing (8 * c + j) 0
+
+    go : (b : Bool) → pick b (getD spare (8 * c + j + 1) 0) (finishing - time) ≤ finishing
+    go true = most (8 * c + j + 1)
+    go false = omega arith

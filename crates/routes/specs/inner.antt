@@ -1,0 +1,4 @@
+pub mod Lists
+pub mod Crossing
+pub mod Orders
+pub mod Plans

@@ -1,0 +1,129 @@
+// One cart's lane, arrival and step count, and one step, read.
+use fields::Cursor;
+use fields::Field;
+use fields::four_bytes;
+use fields::one_byte;
+use fields::two_bytes;
+use sheet_table::Table;
+use words::LATEST_ARRIVAL;
+use words::MOST_TIME;
+use words::Outcome;
+use words::refused;
+ghost use mathlib.Core.Path.{_≡_};
+ghost use Prim.Native.Nat.{_+_, _≤_, _<_};
+ghost use Rattle.sheet.specs.Checks.{mostTravel};
+ghost use Rattle.sheet_table.specs.inner.Parts.{zone};
+ghost use Rattle.sheet_cart.specs.inner.Parts.{headAt, inRoute, stepAt};
+
+// What a cart has before its steps, with the place of its arrival.
+pub struct CartHead {
+    pub lane: u8,
+    pub arrival: u32,
+    pub place: usize,
+    pub steps: u8,
+}
+
+pub enum Head {
+    Got(CartHead, Cursor),
+    Refused(Outcome),
+}
+
+// A step's zone, passing time and travel time.
+pub enum Step {
+    Got(u8, u16, u16, Cursor),
+    Refused(Outcome),
+}
+
+// Lane, arrival and step count of the cart at c.
+pub fn read_head(s: &[u8], c: Cursor) -> Head
+    ensures { λ r. ⌜ r ≡ headAt (now (s .entry)) c ⌝ }
+{
+    let Field::Value(lane, c2) = one_byte(s, c) else {
+        return Head::Refused(refused(1, c.at));
+    };
+    if 15 < lane {
+        return Head::Refused(refused(7, c.at));
+    }
+    let Field::Value(arrival, c3) = four_bytes(s, c2) else {
+        return Head::Refused(refused(1, c2.at));
+    };
+    if LATEST_ARRIVAL < arrival {
+        return Head::Refused(refused(8, c2.at));
+    }
+    let Field::Value(steps, c4) = one_byte(s, c3) else {
+        return Head::Refused(refused(1, c3.at));
+    };
+    if steps < 1 {
+        return Head::Refused(refused(9, c3.at));
+    }
+    if 8 < steps {
+        return Head::Refused(refused(9, c3.at));
+    }
+    let head = CartHead {
+        lane: lane as u8,
+        arrival,
+        place: c2.at,
+        steps: steps as u8,
+    };
+    Head::Got(head, c4)
+}
+
+// Whether z is among the j zones from base on: the walk back over the route's earlier steps.
+fn in_route(sheet: &Table, base: usize, j: usize, z: usize) -> bool
+    requires { ⌜ base + j ≤ 128 ⌝ }
+    ensures { λ r. ⌜ r ≡ inRoute (zone (now (sheet .entry))) base j z ⌝ }
+{
+    let mut k = 0;
+    while k < j {
+        if sheet_table::zone(sheet, base + k) == z {
+            return true;
+        }
+        k += 1;
+    }
+    false
+}
+
+// The largest travel time of step j of k.
+fn most_travel(j: usize, k: usize) -> u32
+    requires { ⌜ j < k ⌝ }
+    ensures { λ r. ⌜ r ≡ mostTravel j k ⌝ }
+{
+    if j + 1 == k { 0 } else { MOST_TIME }
+}
+
+// Step j of k at c, of a route whose zones so far stand from base on; n zones.
+pub fn read_step(
+    s: &[u8],
+    c: Cursor,
+    n: usize,
+    sheet: &Table,
+    base: usize,
+    j: usize,
+    k: usize,
+) -> Step
+    requires { ⌜ (j < k) × (base + j < 128) × (n ≤ 24) ⌝ }
+    ensures { λ r. ⌜ r ≡ stepAt (now (s .entry)) n (zone (now (sheet .entry))) base j k c ⌝ }
+{
+    let Field::Value(z, c2) = one_byte(s, c) else {
+        return Step::Refused(refused(1, c.at));
+    };
+    if n <= z as usize {
+        return Step::Refused(refused(10, c.at));
+    }
+    if in_route(sheet, base, j, z as usize) {
+        return Step::Refused(refused(11, c.at));
+    }
+    let Field::Value(p, c3) = two_bytes(s, c2) else {
+        return Step::Refused(refused(1, c2.at));
+    };
+    if MOST_TIME < p {
+        return Step::Refused(refused(12, c2.at));
+    }
+    let Field::Value(t, c4) = two_bytes(s, c3) else {
+        return Step::Refused(refused(1, c3.at));
+    };
+    if most_travel(j, k) < t {
+        return Step::Refused(refused(12, c3.at));
+    }
+    Step::Got(z as u8, p as u16, t as u16, c4)
+}

@@ -1,0 +1,66 @@
+-- The carts of a sheet and what follows them, as one pass meets them. Each definition is the rest of the work from a cursor on.
+use Prim.Native.Nat.{ℕ, zero, suc, _+_, _*_}
+use mathlib.Core.Bool.{Bool, _&&_}
+use mathlib.Core.List.{List}
+use lib.ListN.{length, getD, set}
+use lib.Dec.{ltb, eqb}
+use Rattle.words.specs.Lists.{pick, anyBelow}
+use Rattle.words.specs.Checks.{refused}
+use Rattle.fields.specs.declared.Cursor.{Cursor}
+use Rattle.sheet.specs.Reading.{sheetRefused, sheetDone}
+use Rattle.sheet.specs.declared.Sheet.{Sheet}
+use Rattle.sheet.specs.declared.SheetRead.{SheetRead}
+use Rattle.sheet_filling.specs.inner.Filled.{withCart, withStep}
+use Rattle.sheet_cart.specs.inner.Parts.{headAt, stepAt}
+use Rattle.sheet_cart.specs.declared.CartHead.{CartHead}
+use Rattle.sheet_cart.specs.declared.Head.{Head}
+use Rattle.sheet_cart.specs.declared.Head.the-variants.{Got as GotHead, Refused as NoHead}
+use Rattle.sheet_cart.specs.declared.Step.{Step}
+use Rattle.sheet_cart.specs.declared.Step.the-variants.{Got as GotStep, Refused as NoStep}
+
+-- ---- what a head does to the sheet
+
+abbrev pub putCart : Sheet → ℕ → CartHead → Sheet
+putCart sh i h = withCart sh i (h .lane) (h .arrival) (h .steps)
+
+-- ---- the rest of the work, from the last field to the first
+
+-- whether cart i arrives before a lower-numbered one of its lane
+abbrev pub early : List ℕ → List ℕ → ℕ → Bool
+early lane arrival i =
+    anyBelow (λ e. eqb (getD lane e 0) (getD lane i 0) && ltb (getD arrival i 0) (getD arrival e 0)) i
+
+-- the arrivals of the carts from i on, n of them, whose places are given
+unfoldable pub lanesFrom : Sheet → List ℕ → ℕ → ℕ → SheetRead
+lanesFrom sh spot zero i = sheetDone sh
+lanesFrom sh spot (suc n) i =
+    pick (early (sh .lane) (sh .arrival) i) (sheetRefused (refused 14 (getD spot i 0))) (lanesFrom sh spot n (i + 1))
+
+-- after all fields: 13, then 14
+unfoldable pub finish : List ℕ → Sheet → List ℕ → Cursor → SheetRead
+finish s sh spot c =
+    pick (eqb (c .at) (length s)) (lanesFrom sh spot (sh .carts) 0) (sheetRefused (refused 13 (c .at)))
+
+-- what each case of the answers Step and Head says: the values and the next cursor, to go on with, or the refusal
+abbrev pub onStep : Step → (ℕ → ℕ → ℕ → Cursor → SheetRead) → SheetRead
+onStep (GotStep zone passing travel next) go = go zone passing travel next
+onStep (NoStep outcome) go = sheetRefused outcome
+
+abbrev pub onHead : Head → (CartHead → Cursor → SheetRead) → SheetRead
+onHead (GotHead h next) go = go h next
+onHead (NoHead outcome) go = sheetRefused outcome
+
+-- n steps from j on, of the k that cart i has; then on
+unfoldable pub stepsFrom : List ℕ → ℕ → ℕ → ℕ → ℕ → Sheet → Cursor → (Sheet → Cursor → SheetRead) → SheetRead
+stepsFrom s i k zero j sh c go = go sh c
+stepsFrom s i k (suc n) j sh c go =
+    onStep (stepAt s (sh .zones) (sh .zone) (8 * i) j k c) λ zone passing travel next.
+    stepsFrom s i k n (j + 1) (withStep sh (8 * i + j) zone passing travel) next go
+
+-- n carts from i on, with the places of the arrivals so far; then what follows the carts
+unfoldable pub cartsFrom : List ℕ → ℕ → ℕ → Sheet → List ℕ → Cursor → SheetRead
+cartsFrom s zero i sh spot c = finish s sh spot c
+cartsFrom s (suc n) i sh spot c =
+    onHead (headAt s c) λ h next.
+    stepsFrom s i (h .steps) (h .steps) 0 (putCart sh i h) next λ sh′ c′.
+    cartsFrom s n (i + 1) sh′ (set spot i (h .place)) c′

@@ -1,0 +1,123 @@
+// The crossing sheet read into a table, in one pass; the table as a struct, at the door.
+use fields::Cursor;
+use fields::Field;
+use fields::one_byte;
+use fields::two_bytes;
+use opening::Opening;
+use opening::read_opening;
+use sheet::SheetRead;
+use sheet::sheet_refused;
+use sheet_carts::read_carts;
+use sheet_filling::put_gaps;
+use sheet_filling::sheet_of;
+use sheet_table::Table;
+use words::MOST_TIME;
+use words::Outcome;
+use words::done;
+use words::refused;
+ghost use mathlib.Core.Path.{_≡_};
+ghost use Prim.Native.Nat.{_≤_};
+ghost use lib.ListN.{replicate};
+ghost use Rattle.words.specs.inner.Checks.{Left};
+ghost use Rattle.sheet.specs.Reading.{sheetRefused, sheetDone, readSheet};
+ghost use Rattle.sheet_filling.specs.inner.Filled.{sheetIn};
+ghost use Rattle.sheet_carts.specs.inner.Scan.{cartsFrom};
+ghost use Rattle.sheet_reader.specs.inner.Scan.{zonesFrom};
+
+// The counts read so far: number 0 and the place of the next field, or a refusal.
+pub struct Counts {
+    pub outcome: Outcome,
+    pub zones: usize,
+    pub carts: usize,
+    pub at: usize,
+}
+
+// A refusal: nothing is counted.
+fn no_counts(outcome: Outcome) -> Counts
+    ensures { λ r. ⌜ (r .outcome ≡ outcome) × (r .zones ≡ 0) × (r .carts ≡ 0) ⌝ }
+{
+    Counts {
+        outcome,
+        zones: 0,
+        carts: 0,
+        at: 0,
+    }
+}
+
+// The gaps of n zones into a sheet that has no carts yet, and the cart count.
+fn read_counts(s: &[u8], c: Cursor, n: usize, sheet: &mut Table) -> Counts
+    requires { ⌜ n ≤ 24 ⌝ }
+    ensures { λ r.
+        ⌜ (r .zones ≤ 24) × (r .carts ≤ 16)
+        × Left sheetRefused (zonesFrom (now (s .entry)) n 0 (sheetIn n 0 (now (sheet .entry))) c)
+        (cartsFrom (now (s .entry)) (r .carts) 0 (sheetIn (r .zones) (r .carts) (now (sheet .exit))) (replicate 16 0)
+        (record { at = r .at })) (r .outcome) ⌝ }
+{
+    let mut at = c.at;
+    let mut z = 0;
+    while z < n {
+        let Field::Value(follow, c2) = two_bytes(s, Cursor { at }) else {
+            return no_counts(refused(1, at));
+        };
+        if MOST_TIME < follow {
+            return no_counts(refused(5, at));
+        }
+        let Field::Value(cross, c3) = two_bytes(s, c2) else {
+            return no_counts(refused(1, c2.at));
+        };
+        if MOST_TIME < cross {
+            return no_counts(refused(5, c2.at));
+        }
+        put_gaps(sheet, z, follow, cross);
+        at = c3.at;
+        z += 1;
+    }
+    let Field::Value(m, c4) = one_byte(s, Cursor { at }) else {
+        return no_counts(refused(1, at));
+    };
+    if 16 < m {
+        return no_counts(refused(6, at));
+    }
+    let outcome = done();
+    Counts {
+        outcome,
+        zones: n,
+        carts: m as usize,
+        at: c4.at,
+    }
+}
+
+// The whole pass, into a table of zeros: the counts with number 0, and the sheet is in the table, or the first of checks 1 to 14 that fails.
+pub fn fill(s: &[u8], sheet: &mut Table) -> Counts
+    requires { ⌜ now sheet ≡ replicate 480 0 ⌝ }
+    ensures { λ r. ⌜ Left sheetRefused (readSheet (now (s .entry))) (sheetDone (sheetIn (r .zones) (r .carts) (now (sheet .exit)))) (r .outcome) ⌝ }
+{
+    let opening = read_opening(s, 1, 1, 24);
+    match opening {
+        Opening::Refused(outcome) => no_counts(outcome),
+        Opening::Zones(n, c) => {
+            let mut counts = read_counts(s, c, n, sheet);
+            let outcome = counts.outcome;
+            if outcome.number != 0 {
+                return counts;
+            }
+            let c2 = Cursor { at: counts.at };
+            counts.outcome = read_carts(s, c2, counts.zones, counts.carts, sheet);
+            counts
+        }
+    }
+}
+
+// A crossing sheet, for every byte string: done with the sheet, or the first of checks 1 to 14 that fails.
+pub fn read_sheet(s: &[u8]) -> SheetRead
+    ensures { λ r. ⌜ r ≡ readSheet (now (s .entry)) ⌝ }
+{
+    let mut table = [0u32; 480];
+    let counts = fill(s, &mut table);
+    let outcome = counts.outcome;
+    if outcome.number != 0 {
+        return sheet_refused(outcome);
+    }
+    let sheet = sheet_of(counts.zones, counts.carts, &table);
+    SheetRead { outcome, sheet }
+}

@@ -1,6 +1,6 @@
 -- At the start the sets of a step are its zone's visitors, parted by lane and by number.
 use Prim.Native.Nat.{ℕ, zero, suc, _+_, _-_, _*_, _/_, _%_, _^_, _≤_, _<_}
-use mathlib.Core.Path.{_≡_, refl, sym, ap, ap₂, _∙_, subst}
+use mathlib.Core.Path.{_≡_, refl, sym, ap, _∙_, subst}
 use mathlib.Core.Bool.{Bool, true, false, not, _&&_, and-comm, and-true}
 use mathlib.Core.List.{List, []}
 use native.Mathlib.Nat.{one-mul, mod-eq-of-lt, two-pow-succ, div-add-mod}
@@ -9,22 +9,22 @@ use native.Mathlib.Omega.{arith}
 use lib.ListN.{length, getD, set, replicate, length-set, length-replicate, List·getD-eq-default}
 use lib.Seq.{getD-set-same, getD-set-other}
 use lib.Pow.{pow-lt}
-use lib.Dec.{leb, ltb, eqb}
-use borrow.Author.Tests.{lt-ltb, le-ltb, le-leb, lt-leb, eq-eqb, ne-eqb}
+use lib.Dec.{ltb, eqb}
+use borrow.Author.Tests.{lt-ltb, le-ltb, eq-eqb, ne-eqb}
 use Rattle.words.proofs.Entries.{at-entry}
 use Rattle.words.proofs.Tests.{eqb-turned}
 use Rattle.words.proofs.Tables.{row-at, column-at}
 use Rattle.sets.specs.inner.Member.{has, Without, Less}
 use Rattle.sets.specs.Counting.{setBelow}
 use Rattle.sets.proofs.Laws.{has-none, has-same}
-use Rattle.sets.proofs.Counting.{has-all, set-is}
+use Rattle.sets.proofs.Counting.{has-all}
 use Rattle.plan_lists.specs.inner.Sets.{Routes, whoVisits}
 use Rattle.moves.proofs.Positions.{zeros-pos}
 use Rattle.routes.specs.Crossing.{steps, zone}
 use Rattle.routes.proofs.Places.{named-says}
 use Rattle.crossing.specs.inner.Tables.{crossingBy}
 use Rattle.crossing.specs.Plans.{givenBy}
-use Rattle.crossing.proofs.Tables.{steps-is, zone-is}
+use Rattle.crossing.proofs.Tables.{steps-is}
 use Rattle.removal.specs.Pairs.{Unplanned, visits, sameLane, isPair}
 use Rattle.sheet_table.specs.inner.Parts as parts
 use Rattle.judge_entering.specs.inner.Lanes.{onLane, lanesOf}
@@ -35,7 +35,7 @@ use Rattle.planner_orders.proofs.Groups.{none-undecided}
 use Rattle.planner_groups.specs.inner.Pairs.{HasPairs}
 use Rattle.planner_groups.specs.inner.Starting.{visitingAt, Lent, Starts}
 use Rattle.planner_groups.proofs.Sets.{set-has}
-use Rattle.planner_groups.proofs.Visitors.{visitors-says}
+use Rattle.planner_groups.proofs.Visitors.{visiting-says}
 
 -- ---- the carts with lower numbers
 
@@ -54,30 +54,6 @@ pub lower-has : (k c : ℕ) → c < k → (d : ℕ) → has ((1 * 2 ^ c) % 2 ^ k
 lower-has k c l d =
     let full : (1 * 2 ^ c) % 2 ^ k - 1 ≡ setBelow c (λ i. true) = omega (arith, bit-is k c l, set-full c) in
     rw full (has-all c (λ i. true) d ∙ and-true (ltb d c))
-
--- ---- the carts of a lane
-
-module _ (lane : List ℕ) where
-  abbrev pub mate : ℕ → ℕ
-  mate c = setBelow 16 λ d. eqb (getD lane d 0) (getD lane c 0)
-
-  between : (v l : ℕ) → (leb l v && not (leb (l + 1) v)) ≡ eqb v l
-  between v l = go (decLt v l) (ℕ-discrete v l)
-    where
-      go : Dec (v < l) → Dec (v ≡ l) → (leb l v && not (leb (l + 1) v)) ≡ eqb v l
-      go (yes a) b = rw (lt-leb l v a, ne-eqb v l (λ e. omega arith))
-      go (no a) (yes e) = rw (le-leb l v (omega arith), lt-leb (l + 1) v (omega arith), eq-eqb v l e)
-      go (no a) (no n) = rw (le-leb l v (omega (arith, a)), le-leb (l + 1) v (omega (arith, a, n)), ne-eqb v l n)
-
-  pub mate-is : (c number from after r : ℕ) → number ≡ getD lane c 0
-      → from ≡ setBelow 16 (λ d. leb number (getD lane d 0)) → after ≡ setBelow 16 (λ d. leb (number + 1) (getD lane d 0))
-      → Less from after r → r < 2 ^ 16 → r ≡ mate c
-  mate-is c number from after r is from-is after-is less fits =
-      set-is 16 r _ fits λ d m.
-      less d
-      ∙ ap₂ (λ (a b : Bool). a && not b) (set-has 16 _ from from-is d m) (set-has 16 _ after after-is d m)
-      ∙ between (getD lane d 0) number
-      ∙ ap (eqb (getD lane d 0)) is
 
 -- ---- the visitors of a step's zone
 
@@ -216,13 +192,7 @@ module _ (sheet visitors ahead behind pairs mates : List ℕ) (sheet-routes : Ro
           (done .passed (8 * c + j) (omega (arith, cart)))
 
       who-says : (d : ℕ) → has (who (8 * c + j)) d ≡ visits U d z
-      unfolding crossingBy
-      who-says d =
-          let few : j < 8 = omega (arith, sized .ranged .steps-most c) in
-          let below : j < getD stepTable c 0 = omega (arith, h, steps-is stepTable zoneTable [] c cart) in
-          let there = zone-is stepTable zoneTable [] c cart j h in
-          let known = sheet-routes .known c j below in
-          rw (row-at c j few, column-at c j few, lt-ltb j (getD stepTable c 0) below, visitors-are, there) (visitors-says stepTable zoneTable (getD zoneTable (8 * c + j) 0) known d)
+      who-says = visiting-says sheet visitors sheet-routes visitors-are zones carts sized c j h
 
       own : visits U c z ≡ true
       own = named-says (getD (U .routes) c []) z .1 (j, h, refl)

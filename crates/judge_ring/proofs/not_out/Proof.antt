@@ -1,5 +1,5 @@
-use mathlib.Core.Path.{sym, _∙_}
 -- A cart without steps makes no move; another is out past its last step.
+use mathlib.Core.Path.{sym, _∙_}
 use mathlib.Core.Bool.{false≢true}
 use native.Mathlib.Omega.{arith}
 use Rattle.routes.proofs.Moves.{moves-none}

@@ -1,6 +1,6 @@
+-- The loop keeps that no cart before c stands past out.
 use mathlib.Core.Path.{ap, refl}
 use Prim.Native.Nat.{_-_, _≤_}
--- The loop keeps that no cart before c stands past out.
 use mathlib.Core.Bool.{false≢true}
 use lib.ListN.{getD}
 use Rattle.routes.specs.Moves.{movesOf}

@@ -1,4 +1,4 @@
--- The sheet's tables are worked out, the group of all ranks is solved over them, and they hold the final orders.
+-- The sheet's tables are worked out, and the group of all ranks is solved over them.
 use mathlib.Core.Path.{refl}
 use Rattle.plan_reader.proofs.ValidLaws.{valid-routes}
 use Rattle.planner_solving.proofs.Tables.{sheet-routed, lanes-most, sheet-triable, sheet-solved}

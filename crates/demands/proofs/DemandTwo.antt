@@ -185,19 +185,25 @@ module _ (s p : List ℕ) where
           last = last;
           bound = omega (arith, last, finish-bound X G only all (timesOf after) told ranged);
           counted = counted;
-          no-carts = λ none. let v = said-sheet s p readable in (last ∙ finish-no-carts (sheetOf s) v none (ordersRead s p) (timesOf after), omega (arith, counted, no-steps (sheetOf s) v none));
+          no-carts = λ none. let v = said-sheet s p readable in (
+            last ∙ finish-no-carts (sheetOf s) v none (ordersRead s p) (timesOf after),
+            omega
+                (arith, counted, no-steps (sheetOf s) v none),
+          );
         }
       where
         counted : r .moves ≡ sum (sheetOf s .steps) + sheetOf s .carts
         counted = ap (λ (x : Judged). x .moves) e ∙ moves-are (sheetOf s) (ordersRead s p) (said-sheet s p readable)
 
 -- both sentences, of what judging answers and leaves in the words
-pub judged-rightly : (s p words : List ℕ) (r : Judged) (after : List ℕ) → r ≡ judge s p (length words) → after ≡ wordsAfter s p words → JudgedRightly s p (length words) r after
+pub judged-rightly : (s p words : List ℕ) (r : Judged) (after : List ℕ) → r ≡ judge s p (length words) → after ≡ wordsAfter s p words → JudgedRightly
+    s p (length words) r after
 judged-rightly s p words r after e f = record {
   verdict = verdict-published s p (length words) r e;
   times = λ ok.
       let (readable, accepted, long) = number-accepted s p (length words) (sym (ap (λ (x : Judged). x .outcome .number) e) ∙ ok) in
-      times-published s p readable accepted words after (f ∙ words-accepted s p readable accepted words long) r (e ∙ judge-accepted s p readable accepted (length words) long);
+      times-published s p readable accepted words after (f ∙ words-accepted s p readable accepted words long) r
+      (e ∙ judge-accepted s p readable accepted (length words) long);
 }
 
 -- ---- the planner
@@ -221,11 +227,13 @@ module _ (rule : Rule) (s : List ℕ) where
   module _ (accepted : readSheet s .outcome .number ≡ 0) where
     planning-done : (room : ℕ) → planLength sheet ≤ room → planSheet rule s room ≡ planned sheet rule
     unfolding planSheet firstFailing
-    planning-done room l = first-pass notPlanned (planned sheet rule) (sheetChecks s) (ownCheck room) (accepted-passes s accepted) ∙ rw (le-leb (planLength sheet) room l)
+    planning-done room l = first-pass notPlanned (planned sheet rule) (sheetChecks s) (ownCheck room) (accepted-passes s accepted) ∙ rw
+        (le-leb (planLength sheet) room l)
 
     room-done : (room : List ℕ) → planLength sheet ≤ length room → roomPlanned rule s room ≡ withPlan rule s room
     unfolding roomPlanned firstFailing
-    room-done room l = first-pass (λ _. room) (withPlan rule s room) (sheetChecks s) (ownCheck (length room)) (accepted-passes s accepted) ∙ rw (le-leb (planLength sheet) (length room) l)
+    room-done room l = first-pass (λ _. room) (withPlan rule s room) (sheetChecks s) (ownCheck (length room)) (accepted-passes s accepted) ∙ rw
+        (le-leb (planLength sheet) (length room) l)
 
   planned-outcome : planned sheet rule .outcome .number ≡ 0
   unfolding planned
@@ -304,7 +312,8 @@ module _ (s p room : List ℕ) where
       pass-answers notWritten (wrote s) checks (checks-say .passes (reading-says s p .passing (read-passes s p readable), omega (arith, plan-long readable)))
 
   -- "a readable plan written again gives the same bytes"
-  pub written-again-same : (r : PlanWritten) (after : List ℕ) → Bytes p → r ≡ writeAgain s p (length room) → after ≡ roomAfter s p room → SameBytes s p room r after
+  pub written-again-same : (r : PlanWritten) (after : List ℕ) → Bytes p → r ≡ writeAgain s p (length room) → after ≡ roomAfter s p room → SameBytes s
+      p room r after
   written-again-same r after b e f =
       let number-is : r .outcome .number ≡ writeAgain s p (length room) .outcome .number = ap (λ (w : PlanWritten). w .outcome .number) e in
       record {

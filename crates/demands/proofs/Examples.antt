@@ -40,4 +40,46 @@ use Rattle.demands.specs.Examples.{firstCost, leavingTimes, Holds, examp
 
 pub examples-hold : All Holds examples
 unfolding firstCost leavingTimes planSheet roomAfter planned orderedBy ordersBy passingLists finalOrders decisions solved trial turn decide candidates while turns largestCost cost isTakenOver spareTime spareRule leastOf workedBack movesMade isOut enteringTime isUndecided goesBefore pairOrder isPair rank isDecided written listsBytes listBytes bytesOf sumBelow setBelow readSheet readPlan judge wordsAfter ask recordAfter aheadOf countAhead isReached isInRange isClosed lockedRing timeWords lowestStuck ringFrom lowest isPermitted greedy end put workedOut leastFrom between ringFirst ringRest allBelow placeOf isAhead firstOf largest entering finish givenBy ordersOf sheetChecks zoneChecks stepChecks cartChecks laneChecks firstFailing fieldChecks value each entries anyBelow countBelow cartAt sheetOf countAt planChecks listChecks planCartChecks planLaneChecks
-examples-hold = ((refl, refl), (refl, ((refl, refl), ((refl, refl), (refl, (refl, (refl, (refl, ((refl, refl), (refl, (refl, (refl, ((refl, refl), ((refl, refl), ((refl, refl), ((refl, refl), ((refl, refl), ((refl, refl), ((refl, refl), ((refl, refl), ((refl, refl), tt)))))))))))))))))))))
+examples-hold = (
+  (refl, refl),
+  (
+    refl,
+    (
+      (refl, refl),
+      (
+        (refl, refl),
+        (
+          refl,
+          (
+            refl,
+            (
+              refl,
+              (
+                refl,
+                (
+                  (refl, refl),
+                  (
+                    refl,
+                    (
+                      refl,
+                      (
+                        refl,
+                        (
+                          (refl, refl),
+                          (
+                            (refl, refl),
+                            ((refl, refl), ((refl, refl), ((refl, refl), ((refl, refl), ((refl, refl), ((refl, refl), ((refl, refl), tt))))))),
+                          ),
+                        ),
+                      ),
+                    ),
+                  ),
+                ),
+              ),
+            ),
+          ),
+        ),
+      ),
+    ),
+  ),
+)

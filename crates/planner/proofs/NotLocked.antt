@@ -124,7 +124,8 @@ module _ (sheet : Sheet) (v : Valid sheet) (rule : Rule) where
   -- the judge's times are those of the rule's orders
   judged-times-are : EnteringTimes F G (judging.enteringTime sheet orders)
   judged-times-are c s h =
-      subst (λ (X : Crossing). EnteringTimes X G (judging.enteringTime sheet orders)) planned-crossing (judged-times sheet orders v planned-valid planned-accepted) c s h
+      subst (λ (X : Crossing). EnteringTimes X G (judging.enteringTime sheet orders)) planned-crossing
+      (judged-times sheet orders v planned-valid planned-accepted) c s h
       ∙ entering-orders (routesOf sheet) (plan (routesOf sheet) lists .before) (F .before) same-orders G
       (judging.enteringTime sheet orders) c s h
 

@@ -52,7 +52,8 @@ module _ (sheet visitors ranks : List ℕ) (few : (c : ℕ) → getD (parts.step
       go i below (yes e) = rw (e, getD-set-same ahead (8 * c + j) r 0 (omega (arith, so-far .ahead-128, few c)), ← is) new
       go i below (no n) = rw (getD-set-other ahead (8 * c + j) (8 * c + i) r 0 (λ e. n (omega arith))) (so-far .own i (omega (arith, n)))
 
-  pub put-cart : (c j : ℕ) (ahead : List ℕ) → getD (parts.steps sheet) c 0 ≤ j → PutTo sheet visitors ranks c j ahead → PutTo sheet visitors ranks (c + 1) 0 ahead
+  pub put-cart : (c j : ℕ) (ahead : List ℕ) → getD (parts.steps sheet) c 0 ≤ j → PutTo sheet visitors ranks c j ahead → PutTo sheet visitors ranks
+      (c + 1) 0 ahead
   put-cart c j ahead all so-far = record {
     ahead-128 = so-far .ahead-128;
     earlier = λ d i below s. go d i below s (ℕ-discrete d c);
@@ -70,7 +71,8 @@ with-own : (who other test lower : Bool) → other ≡ true → (who ≡ true �
 with-own false other test lower o t = refl
 with-own true other test lower o t = rw (o, t refl)
 
-module _ (n m : ℕ) (sheet : List ℕ) (v : Valid (sheetIn n m sheet)) {visitors : List ℕ} (visitors-are : visitors ≡ whoVisits (parts.steps sheet) (parts.zone sheet))
+module _ (n m : ℕ) (sheet : List ℕ) (v : Valid (sheetIn n m sheet)) {visitors : List ℕ}
+    (visitors-are : visitors ≡ whoVisits (parts.steps sheet) (parts.zone sheet))
     {ranks : List ℕ} (ranked : Ranks (parts.arrival sheet) m ranks) where
   abbrev U : Unplanned
   U = unplannedOf sheet n m
@@ -97,7 +99,13 @@ module _ (n m : ℕ) (sheet : List ℕ) (v : Valid (sheetIn n m sheet)) {visitor
     sheet-sized = sized;
     ahead-is = λ c j d h.
         let cart : c < m = sized .able .cart-below c _ (j, h, refl) in
-        let own : j < getD (parts.steps sheet) c 0 = omega (arith, h, v .carts-most, steps-is (parts.steps sheet) (parts.zone sheet) [] c (omega (arith, v .carts-most))) in
+        let own : j < getD (parts.steps sheet) c 0 = omega (
+          arith,
+          h,
+          v .carts-most,
+          steps-is (parts.steps sheet) (parts.zone sheet) [] c
+              (omega (arith, v .carts-most)),
+        ) in
         let z = zone (unordered U) c j in
         put .earlier c j cart own d
         ∙ ap (λ (b : Bool). b && not (has (noEarlier ranks c) d)) (visiting-says sheet visitors (valid-routes _ v) visitors-are n m sized c j h d)

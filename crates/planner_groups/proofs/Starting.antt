@@ -128,7 +128,8 @@ module _ (sheet visitors mates : List ℕ) where
   }
     where
       go : (k : ℕ) → k < x + 1 → Dec (k ≡ x)
-          → Parted (visitingAt sheet visitors k) (getD mates (k / 8) 0) (k / 8) (getD (set ahead x a) k 0) (getD (set behind x b) k 0) (getD (set pairs x p) k 0)
+          → Parted (visitingAt sheet visitors k) (getD mates (k / 8) 0) (k / 8) (getD (set ahead x a) k 0) (getD (set behind x b) k 0)
+          (getD (set pairs x p) k 0)
       go k below (yes e) = rw (
         e,
         getD-set-same ahead x a 0 (omega (arith, so-far .ahead-128)),
@@ -188,7 +189,8 @@ module _ (sheet visitors ahead behind pairs mates : List ℕ) (sheet-routes : Ro
       here : Parted (who (8 * c + j)) (getD mates c 0) c (getD ahead (8 * c + j) 0) (getD behind (8 * c + j) 0) (getD pairs (8 * c + j) 0)
       here =
           let few : j < 8 = omega (arith, sized .ranged .steps-most c) in
-          subst (λ (i : ℕ). Parted (who (8 * c + j)) (getD mates i 0) i (getD ahead (8 * c + j) 0) (getD behind (8 * c + j) 0) (getD pairs (8 * c + j) 0)) (row-at c j few)
+          subst (λ (i : ℕ). Parted (who (8 * c + j)) (getD mates i 0) i (getD ahead (8 * c + j) 0) (getD behind (8 * c + j) 0)
+          (getD pairs (8 * c + j) 0)) (row-at c j few)
           (done .passed (8 * c + j) (omega (arith, cart)))
 
       who-says : (d : ℕ) → has (who (8 * c + j)) d ≡ visits U d z
@@ -212,7 +214,8 @@ module _ (sheet visitors ahead behind pairs mates : List ℕ) (sheet-routes : Ro
         behind-is = λ d.
             here .behind-are d
             ∙ ap (λ (b : Bool). b && (has (getD mates c 0) d && ltb c d)) (who-says d)
-            ∙ on-lane (visits U d z) (visits U c z) (sameLane U c d) (has (getD mates c 0) d) (ltb c d) own (λ e. mate-says d e ∙ eqb-turned (U .given .lane d) (U .given .lane c))
+            ∙ on-lane (visits U d z) (visits U c z) (sameLane U c d) (has (getD mates c 0) d) (ltb c d) own
+            (λ e. mate-says d e ∙ eqb-turned (U .given .lane d) (U .given .lane c))
             ∙ ap (λ (b : Bool). b && (sameLane U c d && ltb c d)) (and-comm (visits U d z) (visits U c z))
             ∙ sym (start-before U z c d []);
         undecided-is = λ d. has-none d ∙ sym (none-undecided U z d c 0 []);
@@ -230,7 +233,12 @@ module _ (sheet visitors ahead behind pairs mates : List ℕ) (sheet-routes : Ro
     no-step c j few past =
         elim (decLt c 16) [
           | yes l ↦
-              let none : who (8 * c + j) ≡ 0 = rw (row-at c j few, column-at c j few, le-ltb j (getD stepTable c 0) (omega (arith, past, steps-is stepTable zoneTable [] c l))) in
+              let none : who (8 * c + j) ≡ 0 = rw (
+                row-at c j few,
+                column-at c j few,
+                le-ltb j (getD stepTable c 0)
+                    (omega (arith, past, steps-is stepTable zoneTable [] c l)),
+              ) in
               parted-none _ _ _ _ _ _ none (done .passed (8 * c + j) (omega arith))
           | no m ↦ (
             List·getD-eq-default ahead 0 {n = 8 * c + j} (omega (arith, m, done .ahead-128)),

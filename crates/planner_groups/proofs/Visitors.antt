@@ -49,7 +49,8 @@ module _ (stepTable zoneTable : List ℕ) where
     where
       go : Dec (d < 16) → (ltb d 16 && names zoneTable (getD stepTable d 0) d z) ≡ isNamed (getD routes d []) z
       go (yes m) =
-          let own : getD routes d [] ≡ routeOf stepTable zoneTable d = getD-entries 16 0 (routeOf stepTable zoneTable) d [] m ∙ ap (routeOf stepTable zoneTable) (omega arith) in
+          let own : getD routes d [] ≡ routeOf stepTable zoneTable d = getD-entries 16 0 (routeOf stepTable zoneTable) d [] m ∙ ap
+          (routeOf stepTable zoneTable) (omega arith) in
           rw (lt-ltb d 16 m, own) (sym (route-named d z))
       go (no n) = let past : 16 ≤ d = omega (arith, n) in rw (le-ltb d 16 past) (sym (none-past d z past))
 
@@ -73,4 +74,5 @@ module _ (sheet visitors : List ℕ) (sheet-routes : Routes (parts.steps sheet) 
       let below : j < getD stepPart c 0 = omega (arith, h, steps-is stepPart zonePart [] c cart) in
       let there = zone-is stepPart zonePart [] c cart j h in
       let known = sheet-routes .known c j below in
-      rw (row-at c j few, column-at c j few, lt-ltb j (getD stepPart c 0) below, visitors-are, there) (visitors-says stepPart zonePart (getD zonePart (8 * c + j) 0) known d)
+      rw (row-at c j few, column-at c j few, lt-ltb j (getD stepPart c 0) below, visitors-are, there)
+      (visitors-says stepPart zonePart (getD zonePart (8 * c + j) 0) known d)

@@ -61,7 +61,8 @@ module _ (stepTable zoneTable lane arrival passing travel follow cross : List �
     place-apart : (c d z : ℕ) → Visiting U c z → Visiting U d z → place z c ≡ place z d → c ≡ d
     place-apart c d z v w same =
         let l = able .zone-below c z v in
-        sym (place-listed U able X (good .both) (good .strict) z l c v) ∙ ap (λ (k : ℕ). getD (listOf lists z) k 0) same ∙ place-listed U able X (good .both) (good .strict) z l d w
+        sym (place-listed U able X (good .both) (good .strict) z l c v) ∙ ap (λ (k : ℕ). getD (listOf lists z) k 0) same ∙ place-listed U able X
+        (good .both) (good .strict) z l d w
 
     -- ---- a step in the tables, and a cart that visits a zone
 

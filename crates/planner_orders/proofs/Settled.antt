@@ -131,7 +131,8 @@ module _ (stepTable zoneTable lane arrival passing travel follow cross : List �
       pub stands-times : isOut Z ≡ true → (c s : ℕ) → s < steps Z c → timesOf enter c s ≡ enteringTime Z G (movesMade Z) c s
       unfolding crossingBy
       stands-times e =
-          let mine : EnteringTimes Z G (timesOf enter) = λ c s h. settled-times X G at left enter order made settled (stands-out .0 e) c s h ∙ stands-entering (timesOf enter) c s h in
+          let mine : EnteringTimes Z G (timesOf enter) = λ c s h. settled-times X G at left enter order made settled (stands-out .0 e) c s h ∙
+          stands-entering (timesOf enter) c s h in
           times-unique Z G only (allMade Z e) (timesOf enter) (enteringTime Z G (movesMade Z)) mine (entering-made Z G only e)
 
   -- the same of the orders present while a group is solved

@@ -79,7 +79,8 @@ module _ (zones carts : ℕ) (table : List ℕ) (v : Valid (sheetIn zones carts 
       places = places;
       steps-16 = v .shaped .steps-16;
       zone-most =
-          entries-most 23 (sheet .zone) (v .shaped .zone-128) (λ c j h. omega (arith, step-valid sheet v c j h .zone-below, v .zones-most)) (v .unused .no-zone);
+          entries-most 23 (sheet .zone) (v .shaped .zone-128) (λ c j h. omega (arith, step-valid sheet v c j h .zone-below, v .zones-most))
+          (v .unused .no-zone);
       passing-most = entries-most mostTime (sheet .passing) (v .shaped .passing-128) (λ c j h. step-valid sheet v c j h .passing-most) (v .unused .no-passing);
     }
 

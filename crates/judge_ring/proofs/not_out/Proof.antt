@@ -21,7 +21,8 @@ wide-requires : tie.Need-wide-requires
 wide-requires c κs = search needs
 
 returns-2 : tie.Need-returns-2
-returns-2 c = rw (c .wide .ensures .0, c .before .before .before .steps .ensures) (steps-left _ _ (rw (c .before .before .before .steps .ensures) at (c .before .before .if1 .left)))
+returns-2 c = rw (c .wide .ensures .0, c .before .before .before .steps .ensures)
+    (steps-left _ _ (rw (c .before .before .before .steps .ensures) at (c .before .before .if1 .left)))
 
 pub not-out-spec : {M : Type 1} → statement M
 not-out-spec =

@@ -13,7 +13,14 @@ lists-of-requires : tie.Need-lists-of-requires
 unfolding orderedBy
 lists-of-requires c κs =
     let v = c .before .before .pre .0 .1 in
-    record { zones = _; carts = _; orders = _; listable = rule-listable Removal _ _ _ _ v (c .before .solve-sheet .ensures _ v); visitors-are = c .before .before .pre .1 }
+    record {
+      zones = _;
+      carts = _;
+      orders = _;
+      listable = rule-listable Removal _ _ _ _ v (c .before .solve-sheet .ensures _ v);
+      visitors-are =
+          c .before .before .pre .1;
+    }
 
 returns : tie.Need-returns
 unfolding orderedBy

@@ -13,22 +13,38 @@ enum-told : tie.Need-enum-told
 enum-told c = search needs
 
 by-removal-requires : tie.Need-by-removal-requires
-by-removal-requires c κs = (c .before .before .before .before .pre .0, visitors-are _ _ _ (c .before .before .before .who-visits .ensures) (c .before .before .before .before .pre .1))
+by-removal-requires c κs = (
+  c .before .before .before .before .pre .0,
+  visitors-are _ _ _ (c .before .before .before .who-visits .ensures)
+      (c .before .before .before .before .pre .1),
+)
 
 enum-told-2 : tie.Need-enum-told-2
 enum-told-2 c = search needs
 
 by-arrival-requires : tie.Need-by-arrival-requires
-by-arrival-requires c κs = (c .before .before .before .before .pre .0, visitors-are _ _ _ (c .before .before .before .who-visits .ensures) (c .before .before .before .before .pre .1))
+by-arrival-requires c κs = (
+  c .before .before .before .before .pre .0,
+  visitors-are _ _ _ (c .before .before .before .who-visits .ensures)
+      (c .before .before .before .before .pre .1),
+)
 
 enum-told-3 : tie.Need-enum-told-3
 enum-told-3 c = search needs
 
 by-removal-requires-2 : tie.Need-by-removal-requires-2
-by-removal-requires-2 c κs = (c .before .before .before .before .pre .0, visitors-are _ _ _ (c .before .before .before .who-visits .ensures) (c .before .before .before .before .pre .1))
+by-removal-requires-2 c κs = (
+  c .before .before .before .before .pre .0,
+  visitors-are _ _ _ (c .before .before .before .who-visits .ensures)
+      (c .before .before .before .before .pre .1),
+)
 
 by-arrival-requires-2 : tie.Need-by-arrival-requires-2
-by-arrival-requires-2 c κs = (c .before .before .before .before .before .before .pre .0, visitors-are _ _ _ (c .before .before .before .before .before .who-visits .ensures) (c .before .before .before .before .before .before .pre .1))
+by-arrival-requires-2 c κs = (
+  c .before .before .before .before .before .before .pre .0,
+  visitors-are _ _ _
+      (c .before .before .before .before .before .who-visits .ensures) (c .before .before .before .before .before .before .pre .1),
+)
 
 earlier-requires : tie.Need-earlier-requires
 earlier-requires c κs = search needs

@@ -9,13 +9,17 @@ passing-lists-requires : tie.Need-passing-lists-requires
 passing-lists-requires c κs = let l = c .pre .listable in listed-placeable _ (l .valid) _ (l .passable) (l .stands) (c .pre .visitors-are)
 
 verdict-of-requires : tie.Need-verdict-of-requires
-verdict-of-requires c κs = let l = c .before .before .before .pre .listable in record { sound = listed-sound _ (l .valid) _ (l .passable) (l .stands); order-144 = refl }
+verdict-of-requires c κs = let l = c .before .before .before .pre .listable in record
+    { sound = listed-sound _ (l .valid) _ (l .passable) (l .stands); order-144 = refl }
 
 finish-of-requires : tie.Need-finish-of-requires
-finish-of-requires c κs = let l = c .before .before .before .before .before .before .before .pre .listable in sheet-leavable _ (l .valid) _ (c .before .before .before .verdict-of .ensures .settled .enter-most)
+finish-of-requires c κs = let l = c .before .before .before .before .before .before .before .pre .listable in sheet-leavable _ (l .valid) _
+    (c .before .before .before .verdict-of .ensures .settled .enter-most)
 
 returns : tie.Need-returns
-returns c = λ n m X l. lists-told _ (l .valid) X (l .passable) (l .stands) (c .before .before .before .before .verdict-of .ensures .settled) (c .before .before .before .before .before .before .before .before .pre .visitors-are) (c .before .before .before .before .before .before .before .passing-lists .ensures) (c .finish-of .ensures)
+returns c = λ n m X l. lists-told _ (l .valid) X (l .passable) (l .stands) (c .before .before .before .before .verdict-of .ensures .settled)
+    (c .before .before .before .before .before .before .before .before .pre .visitors-are)
+    (c .before .before .before .before .before .before .before .passing-lists .ensures) (c .finish-of .ensures)
 
 pub lists-of-spec : {M : Type 1} → statement M
 lists-of-spec =

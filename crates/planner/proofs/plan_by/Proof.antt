@@ -28,10 +28,23 @@ slice-aggregate-sum-of : tie.Need-slice-aggregate-sum-of
 slice-aggregate-sum-of c = search needs
 
 sum-of-requires : tie.Need-sum-of-requires
-sum-of-requires c κs = (omega arith, omega (arith, ap length (c .before .step-counts .ensures), plan-valid _ _ _ (c .before .before .before .before .before .before .fill .ensures) (c .before .before .before .if1 .left) .shaped .steps-16))
+sum-of-requires c κs = (
+  omega arith,
+  omega (
+    arith,
+    ap length (c .before .step-counts .ensures),
+    plan-valid _ _ _
+        (c .before .before .before .before .before .before .fill .ensures) (c .before .before .before .if1 .left) .shaped .steps-16,
+  ),
+)
 
 add-total-2 : tie.Need-add-total-2
-add-total-2 c = omega (arith, plan-valid _ _ _ (c .before .before .before .before .before .before .before .fill .ensures) (c .before .before .before .before .if1 .left) .zones-most, c .sum-of .ensures .1)
+add-total-2 c = omega (
+  arith,
+  plan-valid _ _ _ (c .before .before .before .before .before .before .before .fill .ensures)
+      (c .before .before .before .before .if1 .left) .zones-most,
+  c .sum-of .ensures .1,
+)
 
 refused-requires : tie.Need-refused-requires
 refused-requires c κs = search needs
@@ -40,13 +53,25 @@ not-planned-requires-2 : tie.Need-not-planned-requires-2
 not-planned-requires-2 c κs = search needs
 
 returns-2 : tie.Need-returns-2
-returns-2 c = let h = plan-short _ _ _ (c .before .before .before .before .before .before .before .before .before .before .fill .ensures) (c .before .before .before .before .before .before .before .if1 .left) _ _ (ap (λ (sum : ℕ). 4 + c .before .before .before .before .before .before .before .before .before .before .fill .result .zones + sum) (rw (c .before .before .before .before .before .step-counts .ensures) at (c .before .before .before .sum-of .ensures .0))) _ (c .before .before .if2 .taken) in (c .not-planned2 .ensures ∙ rw (c .before .refused .ensures) (h .0), h .1)
+returns-2 c = let h = plan-short _ _ _ (c .before .before .before .before .before .before .before .before .before .before .fill .ensures)
+    (c .before .before .before .before .before .before .before .if1 .left) _ _
+    (ap (λ (sum : ℕ). 4 + c .before .before .before .before .before .before .before .before .before .before .fill .result .zones + sum)
+    (rw (c .before .before .before .before .before .step-counts .ensures) at (c .before .before .before .sum-of .ensures .0))) _
+    (c .before .before .if2 .taken) in (c .not-planned2 .ensures ∙ rw (c .before .refused .ensures) (h .0), h .1)
 
 lists-by-requires : tie.Need-lists-by-requires
-lists-by-requires c κs = ((_, plan-valid _ _ _ (c .before .before .before .before .before .before .before .before .before .before .fill .ensures) (c .before .before .before .before .before .before .before .if1 .left)), c .before .before .before .before .before .step-counts .ensures)
+lists-by-requires c κs = (
+  (
+    _,
+    plan-valid _ _ _ (c .before .before .before .before .before .before .before .before .before .before .fill .ensures)
+        (c .before .before .before .before .before .before .before .if1 .left),
+  ),
+  c .before .before .before .before .before .step-counts .ensures,
+)
 
 write-plan-requires : tie.Need-write-plan-requires
-write-plan-requires c κs = let told = c .before .before .before .before .before .lists-by .ensures _ (plan-valid _ _ _ (c .before .before .before .before .before .before .before .before .before .before .before .before .before .before .before .before .fill .ensures) (c .before .before .before .before .before .before .before .before .before .before .before .before .before .if1 .left)) in let worked = ap (λ (sum : ℕ). 4 + c .before .before .before .before .before .before .before .before .before .before .before .before .before .before .before .before .fill .result .zones + sum) (rw (c .before .before .before .before .before .before .before .before .before .before .before .step-counts .ensures) at (c .before .before .before .before .before .before .before .before .before .sum-of .ensures .0)) in (plan-writable _ _ _ (c .before .before .before .before .before .before .before .before .before .before .before .before .before .before .before .before .fill .ensures) (c .before .before .before .before .before .before .before .before .before .before .before .before .before .if1 .left) _ _ worked _ told _ (c .before .before .before .before .before .before .before .before .if2 .left), plan-length _ _ _ (c .before .before .before .before .before .before .before .before .before .before .before .before .before .before .before .before .fill .ensures) (c .before .before .before .before .before .before .before .before .before .before .before .before .before .if1 .left) _ _ worked _ told)
+write-plan-requires c κs = let told = c .before .before .before .before .before .lists-by .ensures _
+    (plan-valid _ _ _ (c .before .before .before .before .before .before .before .before .before .before .before .before .before .before .before .before .fill .ensures) (c .before .before .before .before .before .before .before .before .before .before .before .before .before .if1 .left)) in let worked = ap (λ (sum : ℕ). 4 + c .before .before .before .before .before .before .before .before .before .before .before .before .before .before .before .before .fill .result .zones + sum) (rw (c .before .before .before .before .before .before .before .before .before .before .before .step-counts .ensures) at (c .before .before .before .before .before .before .before .before .before .sum-of .ensures .0)) in (plan-writable _ _ _ (c .before .before .before .before .before .before .before .before .before .before .before .before .before .before .before .before .fill .ensures) (c .before .before .before .before .before .before .before .before .before .before .before .before .before .if1 .left) _ _ worked _ told _ (c .before .before .before .before .before .before .before .before .if2 .left), plan-length _ _ _ (c .before .before .before .before .before .before .before .before .before .before .before .before .before .before .before .before .fill .ensures) (c .before .before .before .before .before .before .before .before .before .before .before .before .before .if1 .left) _ _ worked _ told)
 
 same-length : tie.Need-same-length
 same-length c = search needs

@@ -22,7 +22,12 @@ loop-holds : tie.Need-loop-holds Inv-loop μ-loop
 loop-holds c = (omega arith, put-none _ _ _ (valid-routes _ (c .before .pre .0 .1) .few))
 
 put-cart-requires : tie.Need-put-cart-requires Inv-loop μ-loop
-put-cart-requires c κs = (omega (arith, c .before .before .before .before .before .pre .0 .1 .carts-most), valid-routes _ (c .before .before .before .before .before .pre .0 .1), c .before .before .before .loop .inv .1)
+put-cart-requires c κs = (
+  omega (arith, c .before .before .before .before .before .pre .0 .1 .carts-most),
+  valid-routes _
+      (c .before .before .before .before .before .pre .0 .1),
+  c .before .before .before .loop .inv .1,
+)
 
 add-c : tie.Need-add-c Inv-loop μ-loop
 add-c c = omega (arith, c .before .before .before .before .before .before .pre .0 .1 .carts-most)
@@ -34,7 +39,8 @@ loop-again : tie.Need-loop-again Inv-loop μ-loop
 loop-again c = (omega arith, c .put-cart .ensures)
 
 returns : tie.Need-returns Inv-loop μ-loop
-returns c = let ends : c .before .loop .c ≡ c .before .before .before .args .m = omega (arith, c .before .loop .inv .0) in λ n v. put-stands n _ _ v (c .before .before .before .pre .1) (c .before .before .ranks .ensures) (rw ends at (c .before .loop .inv .1))
+returns c = let ends : c .before .loop .c ≡ c .before .before .before .args .m = omega (arith, c .before .loop .inv .0) in λ n v. put-stands n _ _ v
+    (c .before .before .before .pre .1) (c .before .before .ranks .ensures) (rw ends at (c .before .loop .inv .1))
 
 pub first-come-orders-spec : {M : Type 1} → statement M
 first-come-orders-spec =

@@ -32,19 +32,40 @@ mul-x : tie.Need-mul-x Inv-loop μ-loop
 mul-x c = search needs
 
 add-x : tie.Need-add-x Inv-loop μ-loop
-add-x c = omega (arith, c .before .before .steps .ensures, c .before .before .before .before .before .before .pre .1 .few (c .before .before .before .before .before .before .args .c))
+add-x c = omega (
+  arith,
+  c .before .before .steps .ensures,
+  c .before .before .before .before .before .before .pre .1 .few
+      (c .before .before .before .before .before .before .args .c),
+)
 
 visiting-requires : tie.Need-visiting-requires Inv-loop μ-loop
-visiting-requires c κs = (omega (arith, c .before .before .steps .ensures, c .before .before .before .before .before .before .pre .1 .few (c .before .before .before .before .before .before .args .c)), c .before .before .before .before .before .before .pre .1)
+visiting-requires c κs = (
+  omega (
+    arith,
+    c .before .before .steps .ensures,
+    c .before .before .before .before .before .before .pre .1 .few
+        (c .before .before .before .before .before .before .args .c),
+  ),
+  c .before .before .before .before .before .before .pre .1,
+)
 
 less-requires : tie.Need-less-requires Inv-loop μ-loop
 less-requires c κs = search needs
 
 mul-ahead : tie.Need-mul-ahead Inv-loop μ-loop
-mul-ahead c = omega (arith, c .before .before .before .before .steps .ensures, c .before .before .before .before .before .before .before .before .pre .1 .few (c .before .before .before .before .before .before .before .before .args .c))
+mul-ahead c = omega (
+  arith,
+  c .before .before .before .before .steps .ensures,
+  c .before .before .before .before .before .before .before .before .pre .1 .few (c .before .before .before .before .before .before .before .before .args .c),
+)
 
 element-write-ahead : tie.Need-element-write-ahead Inv-loop μ-loop
-element-write-ahead c = omega (arith, c .before .before .before .before .steps .ensures, c .before .before .before .before .before .before .before .before .pre .1 .few (c .before .before .before .before .before .before .before .before .args .c))
+element-write-ahead c = omega (
+  arith,
+  c .before .before .before .before .steps .ensures,
+  c .before .before .before .before .before .before .before .before .pre .1 .few (c .before .before .before .before .before .before .before .before .args .c),
+)
 
 add-j : tie.Need-add-j Inv-loop μ-loop
 add-j c = omega (arith, c .before .before .before .before .steps .ensures, c .before .before .before .before .before .before .before .before .pre .1 .few (c .before .before .before .before .before .before .before .before .args .c))
@@ -53,10 +74,20 @@ loop-less : tie.Need-loop-less Inv-loop μ-loop
 loop-less c = search needs
 
 loop-again : tie.Need-loop-again Inv-loop μ-loop
-loop-again c = (omega arith, put-next _ _ _ (c .before .before .before .before .before .before .before .before .pre .1 .few) _ _ _ _ _ (c .before .before .before .before .before .before .before .before .pre .0) (rw (c .before .before .before .before .steps .ensures) at (c .before .before .loop-test .taken)) (c .before .visiting .ensures) (c .before .before .before .loop .inv .1) (rw (c .before .before .before .before .before .at-least .ensures, c .before .before .before .before .before .before .wide .ensures .0) at (c .less .ensures)))
+loop-again c = (
+  omega arith,
+  put-next _ _ _ (c .before .before .before .before .before .before .before .before .pre .1 .few) _ _ _ _ _
+      (c .before .before .before .before .before .before .before .before .pre .0)
+      (rw (c .before .before .before .before .steps .ensures) at (c .before .before .loop-test .taken)) (c .before .visiting .ensures)
+      (c .before .before .before .loop .inv .1) (rw (
+        c .before .before .before .before .before .at-least .ensures,
+        c .before .before .before .before .before .before .wide .ensures .0,
+      ) at (c .less .ensures)),
+)
 
 returns : tie.Need-returns Inv-loop μ-loop
-returns c = put-cart _ _ _ (c .before .before .before .before .before .before .pre .1 .few) _ _ _ (omega (arith, c .before .before .steps .ensures)) (c .before .loop .inv .1)
+returns c = put-cart _ _ _ (c .before .before .before .before .before .before .pre .1 .few) _ _ _ (omega (arith, c .before .before .steps .ensures))
+    (c .before .loop .inv .1)
 
 pub put-cart-spec : {M : Type 1} → statement M
 put-cart-spec =

@@ -78,11 +78,11 @@ bool same_request(const Input& input, Answered& answered) {
   return same_asked(proved.asked, by_hand.asked) && same_table(proved.record, by_hand.record);
 }
 
-bool same_plan(const Input& input, Answered& answered) {
+bool same_plan(const Input& input, Call by_proved, Call by_yardstick, Answered& answered) {
   std::memset(proved.room, 0xee, sizeof proved.room);
   std::memset(by_hand.room, 0xee, sizeof by_hand.room);
-  proved_plan(input);
-  yardstick_plan(input);
+  by_proved(input);
+  by_yardstick(input);
   ++answered.plans[by_hand.planned.outcome.number];
   return same_outcome(proved.planned.outcome, by_hand.planned.outcome) && proved.planned.length == by_hand.planned.length &&
          proved.planned.finish == by_hand.planned.finish && same_table(proved.room, by_hand.room);
@@ -94,7 +94,8 @@ std::string differs(const Input& input, unsigned number, Answered& answered) {
   if (!same_core(input)) return "the judge's core";
   if (!same_verdict(input, answered)) return "judging";
   if (!same_request(input, answered)) return "moving";
-  if (number < plans_of_a_size && !same_plan(input, answered)) return "planning";
+  if (!same_plan(input, proved_first, yardstick_first, answered)) return "first come";
+  if (number < plans_of_a_size && !same_plan(input, proved_plan, yardstick_plan, answered)) return "planning";
   for (unsigned k = 0; k < requests_of_an_input; ++k) {
     if (!same_request(asked_otherwise(input, requests_of_an_input * number + k), answered)) return "moving";
     const Input bad = spoiled(input, requests_of_an_input * number + k);

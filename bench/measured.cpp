@@ -63,6 +63,11 @@ MEASURED proved_plan(const Input& input) {
   new (&proved.planned) oblakosh_planned(oblakosh_plan(s, s_length, proved.room, OBLAKOSH_PLAN));
 }
 
+MEASURED proved_first(const Input& input) {
+  const auto [s, s_length] = sheet_of(input);
+  new (&proved.planned) oblakosh_planned(oblakosh_plan_first(s, s_length, proved.room, OBLAKOSH_PLAN));
+}
+
 MEASURED yardstick_read_sheet(const Input& input) { by_hand.read = yardstick::read_sheet(sheet_of(input), by_hand.sheet); }
 
 MEASURED yardstick_read_plan(const Input& input) {
@@ -86,4 +91,8 @@ MEASURED yardstick_move(const Input& input) {
 
 MEASURED yardstick_plan(const Input& input) {
   new (&by_hand.planned) yardstick::Planned(yardstick::plan(sheet_of(input), by_hand.room, OBLAKOSH_PLAN));
+}
+
+MEASURED yardstick_first(const Input& input) {
+  new (&by_hand.planned) yardstick::Planned(yardstick::plan(sheet_of(input), by_hand.room, OBLAKOSH_PLAN, yardstick::Rule::first_come));
 }

@@ -48,10 +48,12 @@ void proved_judge(const Input&);
 void proved_ask(const Input&);
 void proved_move(const Input&);
 void proved_plan(const Input&);
+void proved_first(const Input&);
 void yardstick_read_sheet(const Input&);
 void yardstick_read_plan(const Input&);
 void yardstick_core(const Input&);
 void yardstick_judge(const Input&);
 void yardstick_move(const Input&);
 void yardstick_plan(const Input&);
+void yardstick_first(const Input&);
 }

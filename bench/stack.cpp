@@ -69,6 +69,7 @@ int measure_stack() {
   print("judge's core", proved_core, yardstick_core, accepted);
   print("judge, accepted", proved_judge, yardstick_judge, accepted, limit.c_str());
   print("judge, locked", proved_judge, yardstick_judge, locked, limit.c_str());
+  print("first come", proved_first, yardstick_first, accepted);
   print("plan", proved_plan, yardstick_plan, accepted);
   print("ask", proved_ask, nullptr, accepted);
   print("move", proved_move, yardstick_move, accepted);

@@ -1,4 +1,4 @@
-/* What a controller does with document 01's sheet S and plan A: reads them, keeps the plan, shows each zone's list, and lets
+/* What a controller does with document 01's sheet S and plan A: reads them, keeps the plan, shows each zone's list, plans, and lets
    the carts roll.
    cc -Iinclude examples/controller.c target/staticlib/liboblakosh.a target/staticlib/libmoving.a */
 #include <stdio.h>
@@ -86,6 +86,20 @@ static void make_plan(size_t room_length)
     printf("other memory: %s\n", same(memory + planned.length, before + planned.length, sizeof memory - planned.length));
 }
 
+/* The plan by arrival, and the better of both plans. */
+static void make_other_plans(void)
+{
+    uint8_t room[OBLAKOSH_PLAN];
+    oblakosh_planned first = oblakosh_plan_first(sheet, sizeof sheet, room, sizeof room);
+    if (done(first.outcome)) {
+        printf("first come %zu bytes, finish %u: plan A's bytes %s\n", first.length, first.finish, same(room, plan, first.length));
+    }
+    oblakosh_planned better = oblakosh_plan_better(sheet, sizeof sheet, room, sizeof room);
+    if (done(better.outcome)) {
+        printf("the better %zu bytes, finish %u: plan A's bytes %s\n", better.length, better.finish, same(room, plan, better.length));
+    }
+}
+
 /* Asks the routine before the cart rolls, and says what it answers. */
 static void request(oblakosh_record *record, size_t cart)
 {
@@ -128,6 +142,7 @@ int main(void)
     keep_plan(sizeof plan - 1);
     make_plan(OBLAKOSH_PLAN);
     make_plan(sizeof plan - 1);
+    make_other_plans();
     drive();
     return 0;
 }

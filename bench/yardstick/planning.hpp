@@ -13,13 +13,19 @@ struct Planned {
   unsigned turns;  // of the rule, counted for the benchmark
 };
 
+enum class Rule { removal, first_come };
+
 class Planner {
  public:
-  explicit Planner(const Sheet& sheet) {
+  Planner(const Sheet& sheet, Rule rule) {
     rank_carts(sheet);
     find_visits(sheet_, visits_);
     find_lanes(sheet_, lanes_);
-    solve(0, sheet_.carts);
+    if (rule == Rule::removal) {
+      solve(0, sheet_.carts);
+    } else {
+      go_by_rank();
+    }
   }
 
   std::uint32_t finish() {
@@ -158,6 +164,15 @@ class Planner {
     behind_[visits_.step[16 * z + first]] &= static_cast<std::uint16_t>(~only(second));
   }
 
+  // "every shared zone goes by arrival, then cart number": by rank
+  void go_by_rank() {
+    for (unsigned r = 0; r < sheet_.carts; ++r) {
+      for (unsigned j = 0; j < sheet_.steps[r]; ++j) {
+        ahead_[8 * r + j] = static_cast<std::uint16_t>(visits_.who[sheet_.zone[8 * r + j]] & (only(r) - 1));
+      }
+    }
+  }
+
   // "Decide the opposite. If the moves now have a cycle, decide this direction instead. If that has one too .. cut in two".
   void solve(unsigned low, unsigned high) {
     unsigned open = arrange(low, high);
@@ -192,14 +207,14 @@ class Planner {
 };
 
 // Reads the sheet and writes its plan at the start of the room.
-inline Planned plan(Lent s, std::uint8_t* room, size_t room_length) {
+inline Planned plan(Lent s, std::uint8_t* room, size_t room_length, Rule rule = Rule::removal) {
   Sheet sheet;
   const Outcome read = read_sheet(s, sheet);
   if (read.number != 0) return {read, 0, 0, 0};
   size_t length = 4 + sheet.zones;
   for (unsigned c = 0; c < sheet.carts; ++c) length += sheet.steps[c];
   if (room_length < length) return {{28, 0}, 0, 0, 0};
-  Planner planner(sheet);
+  Planner planner(sheet, rule);
   const std::uint32_t finish = planner.finish();
   planner.write(room, length);
   return {{0, 0}, length, finish, planner.turns};

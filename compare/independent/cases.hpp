@@ -282,6 +282,35 @@ inline Sheet random_sheet_for_cuts(Random& random) {
     return sheet;
 }
 
+// Sheets for the planners of #101: no carts, one lane, equal arrivals, a finish that hides who waits, and many shared zones.
+inline Sheet random_sheet_for_planners(Random& random) {
+    const uint32_t kind = random.below(5);
+    Sheet sheet = random_sheet(random, kind == 0 ? Shape{1, 4, 0, 0, 1, false} : Shape{2, 3, 2, 4, 3, true});
+    if (kind == 1) {
+        const uint32_t lane = random.below(16);
+        for (Cart& cart : sheet.carts) cart.lane = lane;
+    }
+    if (kind == 2) {
+        const uint32_t arrival = random_arrival(random, random.below(7));
+        for (uint32_t c = 0; c < sheet.carts.size(); c++) {
+            sheet.carts[c].lane = 15 - c;                              // lane order against cart order
+            sheet.carts[c].arrival = arrival;
+        }
+    }
+    if (kind == 3) {
+        // one slow cart alone in a zone of its own: every accepted plan finishes with it
+        const uint32_t own = static_cast<uint32_t>(sheet.zones.size());
+        sheet.zones.push_back(Zone{0, 0});
+        sheet.carts.push_back(Cart{15, 3600000, {Step{own, 60000, 0}}});
+        for (uint32_t c = 0; c + 1 < sheet.carts.size(); c++) {
+            sheet.carts[c].lane = c;
+            sheet.carts[c].arrival = random.below(4);
+        }
+    }
+    sort_arrivals(sheet);
+    return sheet;
+}
+
 // The longest sheet: 16 carts, 8 steps each, 24 zones, all values at their limit.
 inline Sheet longest_sheet() {
     Sheet sheet;
@@ -1028,7 +1057,19 @@ inline Case very_long_case(Random& random) {
     return c;
 }
 
+// A sheet for the planners with a plan of any kind.
+inline Case planners_case(Random& random) {
+    Case c;
+    c.kind = "sheet for the planners,";
+    const Sheet sheet = random_sheet_for_planners(random);
+    c.sheet = sheet_to_bytes(sheet);
+    c.plan = random_plan(random, sheet, c.sheet, c.kind);
+    add_other_inputs(random, c);
+    return c;
+}
+
 inline Case random_small_case(Random& random) {
+    if (random.one_in(20)) return planners_case(random);
     if (random.one_in(25)) return case_with_rings(random, random.between(1, 3), 3);
     if (random.one_in(1000)) return very_long_case(random);
     switch (random.below(4)) {
@@ -1060,6 +1101,47 @@ inline Case random_large_case(Random& random) {
         case 1: return random_case(random, crowded_shape());
         default: return random_case(random, large_shape());
     }
+}
+
+// ---------------------------------------------------------------------------------------------
+// What must occur
+// ---------------------------------------------------------------------------------------------
+
+// What the planners of #101 have to be tried on; a run that never saw one of these has failed.
+enum PlannersSituation {
+    plans_differ_finish_equal, first_come_earlier, removal_earlier, arrivals_equal, one_lane, no_carts, planners_situations
+};
+constexpr const char* planners_situation_names[planners_situations] = {
+    "both finish together with different plans", "first come finishes earlier", "removal finishes earlier",
+    "equal arrivals in a shared zone", "all carts on one lane", "no carts"};
+
+inline bool share_a_zone(const Cart& a, const Cart& b) {
+    for (const Step& step : a.steps) {
+        if (independent::step_in_route(b, step.zone) >= 0) return true;
+    }
+    return false;
+}
+
+// The situations of a sheet that both planners have planned into the same room.
+inline std::vector<PlannersSituation> situations_of(const Sheet& sheet, const independent::PlanningAnswer& removal,
+                                                    const independent::PlanningAnswer& first_come) {
+    std::vector<PlannersSituation> found;
+    if (first_come.finish < removal.finish) found.push_back(first_come_earlier);
+    if (removal.finish < first_come.finish) found.push_back(removal_earlier);
+    if (removal.finish == first_come.finish && removal.room != first_come.room) found.push_back(plans_differ_finish_equal);
+    bool equal = false;
+    bool one = sheet.carts.size() >= 2;
+    for (const Cart& a : sheet.carts) {
+        for (const Cart& b : sheet.carts) {
+            if (a.lane == b.lane) continue;
+            one = false;
+            if (a.arrival == b.arrival && share_a_zone(a, b)) equal = true;
+        }
+    }
+    if (equal) found.push_back(arrivals_equal);
+    if (one) found.push_back(one_lane);
+    if (sheet.carts.empty()) found.push_back(no_carts);
+    return found;
 }
 
 // ---------------------------------------------------------------------------------------------

@@ -20,6 +20,7 @@ using cases::MoveRequest;
 using cases::Random;
 using independent::Bytes;
 using independent::Lists;
+using independent::Planner;
 using independent::Record;
 using independent::Sheet;
 using library::Tally;
@@ -33,7 +34,7 @@ static const char* const kind_names[kinds] = {
     "examples and stored sheets", "one byte changed, or cut", "tiny crossings", "small crossings",
     "damaged sheets", "damaged plans", "dense crossings", "large crossings"};
 
-enum Program { judge_program, planner_program, program_count };
+enum Program { judge_program, planner_program, first_program, better_program, program_count };
 
 // What is added up over all jobs.
 struct Seen {
@@ -170,6 +171,7 @@ static void compare_stored(Random& random, Seen& seen) {
     const Bytes longest = cases::sheet_to_bytes(cases::longest_sheet());
     compare(seen, stored, case_of(random, "the longest sheet", longest, cases::plan_to_bytes(cases::planned_lists(longest))));
     std::vector<std::string> sheets = column_of("compare/independent/cut-groups.txt", 1);
+    for (const std::string& sheet : column_of("compare/independent/first-come.txt", 0)) sheets.push_back(sheet);
     for (const std::string& sheet : column_of("compare/planned.txt", 0)) sheets.push_back(sheet);
     for (const std::string& text : sheets) {
         const Bytes sheet = cases::from_hex(text);
@@ -242,16 +244,24 @@ static void compare_judge_program(Random& random, Seen& seen) {
     }
 }
 
-// The planner program on so many sheets of each number, on a very long one, and on none.
+// The planner program with each word on so many sheets of each number, on the stored sheets, on a very long one, and on none.
 static void compare_planner_program(Random& random, Seen& seen) {
+    const std::pair<Program, Planner> words[3] = {
+        {planner_program, Planner::removal}, {first_program, Planner::first_come}, {better_program, Planner::better}};
     Bytes longer = sheet_S;
     longer.resize(sheet_S.size() + 65536, 0);
-    for (const Bytes& sheet : {Bytes(), sheet_S, longer}) seen.program[planner_program][programs::compare_planner(sheet)]++;
+    std::vector<Bytes> sheets = {Bytes(), sheet_S, longer};
+    for (const std::string& text : column_of("compare/independent/first-come.txt", 0)) sheets.push_back(cases::from_hex(text));
+    for (const Bytes& sheet : sheets) {
+        for (const auto& word : words) seen.program[word.first][programs::compare_planner(sheet, word.second)]++;
+    }
+    uint64_t runs[29] = {};
     for (uint32_t tried = 0; tried < 20000; tried++) {
         const Case c = cases::random_small_case(random);
         const uint32_t number = independent::read_sheet(c.sheet).number;
-        if (seen.program[planner_program][number] >= runs_per_number) continue;
-        seen.program[planner_program][programs::compare_planner(c.sheet)]++;
+        if (runs[number] >= runs_per_number) continue;
+        runs[number]++;
+        for (const auto& word : words) seen.program[word.first][programs::compare_planner(c.sheet, word.second)]++;
     }
 }
 
@@ -293,15 +303,18 @@ static std::vector<Job> all_jobs() {
 
 // "Reading a sheet has 1 to 14, reading a plan 1 to 21, writing it again 1 to 21 and 28, the list operation 1 to 21
 // and 27. The planner takes no plan and has only 1 to 14 and 28. Judging has 1 to 22 and 28. Moving has 1 to 26."
+// Document 02, #101: "Refusals: none new; 1 to 14 and 28."
 struct Column {
     const char* name;
     uint32_t most;                       // it has 0 to this number,
     uint32_t other;                      // and this one, if not 0
 };
-static const Column columns[library::operations] = {{"sheet", 14, 0},  {"plan", 21, 0},      {"again", 21, 28}, {"list", 21, 27},
-                                                    {"judge", 22, 28}, {"planner", 14, 28}, {"ask", 26, 0},    {"move", 26, 0}};
+static const Column columns[library::operations] = {
+    {"sheet", 14, 0},    {"plan", 21, 0},   {"again", 21, 28},  {"list", 21, 27}, {"judge", 22, 28},
+    {"planner", 14, 28}, {"first", 14, 28}, {"better", 14, 28}, {"ask", 26, 0},   {"move", 26, 0}};
 // The programs lend room enough, so that 28 never comes.
-static const Column program_columns[program_count] = {{"judge program", 22, 0}, {"planner program", 14, 0}};
+static const Column program_columns[program_count] = {
+    {"judge program", 22, 0}, {"planner program", 14, 0}, {"planner first", 14, 0}, {"planner better", 14, 0}};
 
 // Prints a number's count; gives what is wrong with it, if anything is.
 static std::string print_count(const Column& column, uint32_t number, uint64_t count, int width) {
@@ -329,6 +342,18 @@ static void print_numbers(const Seen& seen) {
         std::printf("\n");
     }
     if (!wrong.empty()) fail("numbers:" + wrong);
+}
+
+// Prints how often each situation was seen; each has to be.
+static void print_situations(const char* of_what, const char* const* names, const uint64_t* counts, int situations) {
+    std::printf("%s:", of_what);
+    std::string missing;
+    for (int s = 0; s < situations; s++) {
+        std::printf("%s %s %llu", s > 0 ? "," : "", names[s], shown(counts[s]));
+        if (counts[s] == 0) missing += std::string("\nnever seen: ") + names[s];
+    }
+    std::printf("\n");
+    if (!missing.empty()) fail(of_what + missing);
 }
 
 static void print_kinds(const Seen& seen) {
@@ -398,6 +423,7 @@ int main() {
 
     print_kinds(seen);
     print_numbers(seen);
+    print_situations("sheets planned three ways", cases::planners_situation_names, seen.tally.planners, cases::planners_situations);
     if (seen.readable[small] < 200000) fail("fewer than 200,000 small crossings with a readable plan");
     if (seen.tiny_sheets != 17677 || seen.cases[tiny] != 667768) fail("not every tiny crossing");
     if (seen.sheet_refused[damaged_sheets] < 100000) fail("fewer than 100,000 damaged sheets");

@@ -1,4 +1,4 @@
-// Every operation of document 01 on any bytes, written from document 01 alone and plain on purpose.
+// Every operation of document 01 and of document 02's #101 on any bytes, written from them alone and plain on purpose.
 //
 // Lines in quotation marks are sentences of document 01, unless they are marked "001", which is the
 // paper it refers to (Lin and others 2019). The double checks (search over all runs, times two ways,
@@ -1390,25 +1390,40 @@ inline void solve_group(Removal& removal, uint32_t first, uint32_t size) {
     }
 }
 
-inline PlanningAnswer make_plan(const Bytes& sheet_bytes, const Bytes& room) {
-    PlanningAnswer answer;
-    answer.room = room;
-    // "The planner takes no plan and has only 1 to 14 and 28."
-    const SheetAnswer sheet_answer = read_sheet(sheet_bytes);
-    if (sheet_answer.number != 0) {
-        answer.number = sheet_answer.number;
-        answer.place = sheet_answer.place;
-        return answer;
-    }
-    const Sheet& sheet = sheet_answer.sheet;
-    const size_t length = 4 + sheet.zones.size() + count_steps(sheet);
-    // "Planning and writing need exactly the plan's length in room"
-    if (room.size() < length) {
-        answer.number = 28;
-        answer.place = 0;
-        return answer;
-    }
+// ---------------------------------------------------------------------------------------------
+// Planning. Lines in quotation marks that are marked #101 are document 02's.
+// ---------------------------------------------------------------------------------------------
 
+enum class Planner { removal, first_come, better };
+
+// What a planner has worked out for a valid sheet.
+struct WorkedOut {
+    Lists lists;
+    Bytes plan;
+    int64_t finish = 0;
+    uint32_t cuts = 0;                   // how often a group was cut, by the removal rule alone
+};
+
+// The plan's bytes and finish, with what documents 00 and 01 say of every planner's plan.
+inline WorkedOut worked_out(const Bytes& sheet_bytes, const Sheet& sheet, const Lists& lists) {
+    WorkedOut result;
+    result.lists = lists;
+    result.plan = plan_to_bytes(lists);
+    // Document 00: "for every valid sheet it isn't locked. Plans written are read back to the same
+    // orders"; #101: "the plain rule is accepted for every valid sheet"
+    const PlanAnswer read_back = read_plan(sheet_bytes, result.plan);
+    must(read_back.number == 0 && read_back.lists == lists, "the plan is read back to the same orders");
+    must(!verdict_of(sheet_bytes, result.plan, sheet, lists).locked, "the planner's plan is not locked");
+
+    const Orders complete = orders_of_lists(lists);
+    const Times times = times_by_order_of_moves(sheet, complete, order_of_moves(sheet, complete));
+    times_must_agree(times, times_by_relaxation(sheet, complete));
+    must(times.finish <= 18900000, "finish is never above 18,900,000");
+    result.finish = times.finish;
+    return result;
+}
+
+inline WorkedOut plan_by_removal(const Bytes& sheet_bytes, const Sheet& sheet) {
     Removal removal = begin_removal(sheet);
     // "Solve the group of all ranks"
     solve_group(removal, 0, static_cast<uint32_t>(sheet.carts.size()));
@@ -1430,14 +1445,6 @@ inline PlanningAnswer make_plan(const Bytes& sheet_bytes, const Bytes& room) {
         }
         lists.push_back(list);
     }
-    const Bytes plan_bytes = plan_to_bytes(lists);
-    must(plan_bytes.size() == length, "the plan has the plan's length");
-
-    // Document 00: "for every valid sheet it isn't locked. Plans written are read back to the same
-    // orders"
-    const PlanAnswer read_back = read_plan(sheet_bytes, plan_bytes);
-    must(read_back.number == 0 && read_back.lists == lists, "the plan is read back to the same orders");
-    must(!work_out_verdict(sheet, lists).locked, "the planner's plan is not locked");
     const Orders complete = orders_of_lists(lists);
     for (uint32_t z = 0; z < 24; z++) {
         for (uint32_t a = 0; a < 16; a++) {
@@ -1446,16 +1453,84 @@ inline PlanningAnswer make_plan(const Bytes& sheet_bytes, const Bytes& room) {
             }
         }
     }
+    WorkedOut result = worked_out(sheet_bytes, sheet, lists);
+    result.cuts = removal.cuts;
+    return result;
+}
 
-    const Times times = times_by_order_of_moves(sheet, complete, order_of_moves(sheet, complete));
-    times_must_agree(times, times_by_relaxation(sheet, complete));
-    must(times.finish <= 18900000, "finish is never above 18,900,000");
+// The same, remembering the last sheet only, because two planners need it for one sheet.
+inline const WorkedOut& removal_of(const Bytes& sheet_bytes, const Sheet& sheet) {
+    static thread_local bool have_last = false;
+    static thread_local Bytes last_sheet;
+    static thread_local WorkedOut last;
+    if (!have_last || last_sheet != sheet_bytes) {
+        have_last = false;
+        last = plan_by_removal(sheet_bytes, sheet);
+        last_sheet = sheet_bytes;
+        have_last = true;
+    }
+    return last;
+}
+
+// #101: "every shared zone goes by arrival, then cart number." A zone that is not shared has one
+// order only.
+inline WorkedOut plan_first_come(const Bytes& sheet_bytes, const Sheet& sheet) {
+    Lists lists;
+    for (uint32_t z = 0; z < sheet.zones.size(); z++) {
+        std::vector<uint32_t> list;
+        for (uint32_t c = 0; c < sheet.carts.size(); c++) {
+            if (step_in_route(sheet.carts[c], z) < 0) continue;
+            // lower numbers are listed already, so a cart goes behind all that arrive no later
+            size_t at = 0;
+            while (at < list.size() && sheet.carts[list[at]].arrival <= sheet.carts[c].arrival) at++;
+            list.insert(list.begin() + static_cast<long>(at), c);
+        }
+        lists.push_back(list);
+    }
+    return worked_out(sheet_bytes, sheet, lists);
+}
+
+// #101: "works out both and writes the one which finishes earlier, the removal plan if equal"
+inline WorkedOut plan_better(const Bytes& sheet_bytes, const Sheet& sheet) {
+    const WorkedOut removal = removal_of(sheet_bytes, sheet);
+    const WorkedOut first_come = plan_first_come(sheet_bytes, sheet);
+    return first_come.finish < removal.finish ? first_come : removal;
+}
+
+inline WorkedOut work_out_plan(const Bytes& sheet_bytes, const Sheet& sheet, Planner planner) {
+    switch (planner) {
+        case Planner::first_come: return plan_first_come(sheet_bytes, sheet);
+        case Planner::better: return plan_better(sheet_bytes, sheet);
+        default: return removal_of(sheet_bytes, sheet);
+    }
+}
+
+inline PlanningAnswer make_plan(const Bytes& sheet_bytes, const Bytes& room, Planner planner = Planner::removal) {
+    PlanningAnswer answer;
+    answer.room = room;
+    // "The planner takes no plan and has only 1 to 14 and 28." #101: "none new; 1 to 14 and 28"
+    const SheetAnswer sheet_answer = read_sheet(sheet_bytes);
+    if (sheet_answer.number != 0) {
+        answer.number = sheet_answer.number;
+        answer.place = sheet_answer.place;
+        return answer;
+    }
+    const Sheet& sheet = sheet_answer.sheet;
+    const size_t length = 4 + sheet.zones.size() + count_steps(sheet);
+    // "Planning and writing need exactly the plan's length in room"
+    if (room.size() < length) {
+        answer.number = 28;
+        answer.place = 0;
+        return answer;
+    }
+    const WorkedOut result = work_out_plan(sheet_bytes, sheet, planner);
+    must(result.plan.size() == length, "the plan has the plan's length");
 
     // "bytes beyond are untouched"; "The planner returns the plan's length and finish."
-    for (size_t i = 0; i < length; i++) answer.room[i] = plan_bytes[i];
+    for (size_t i = 0; i < length; i++) answer.room[i] = result.plan[i];
     answer.length = static_cast<uint32_t>(length);
-    answer.finish = static_cast<uint32_t>(times.finish);
-    answer.cuts = removal.cuts;
+    answer.finish = static_cast<uint32_t>(result.finish);
+    answer.cuts = result.cuts;
     return answer;
 }
 

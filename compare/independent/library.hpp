@@ -3,6 +3,7 @@
 #ifndef LIBRARY_HPP
 #define LIBRARY_HPP
 
+#include <algorithm>
 #include <cstring>
 #include <stdexcept>
 #include <string>
@@ -25,6 +26,8 @@ using cases::Case;
 using cases::MoveRequest;
 using independent::Bytes;
 using independent::Lists;
+using independent::Planner;
+using independent::PlanningAnswer;
 using independent::Record;
 using independent::Sheet;
 
@@ -37,12 +40,15 @@ public:
 // How many answers of each number each operation gave
 // ---------------------------------------------------------------------------------------------
 
-enum Operation { reading_sheet, reading_plan, writing, listing, judging, planning, asking, moving, operations };
+enum Operation {
+    reading_sheet, reading_plan, writing, listing, judging, planning, planning_first, planning_better, asking, moving, operations
+};
 
 struct Tally {
     uint64_t seen[operations][29] = {};
     uint64_t rings[17] = {};             // by the number of their carts
     uint64_t cut_sheets = 0;             // planned with a group cut
+    uint64_t planners[cases::planners_situations] = {};
 
     void count(Operation operation, uint32_t number) {
         if (number > 28) throw Difference("document 01 has no such number");
@@ -54,6 +60,7 @@ struct Tally {
         }
         for (int length = 0; length <= 16; length++) rings[length] += other.rings[length];
         cut_sheets += other.cut_sheets;
+        for (int s = 0; s < cases::planners_situations; s++) planners[s] += other.planners[s];
     }
 };
 
@@ -342,7 +349,7 @@ public:
     // The operations that take a sheet alone.
     void compare_for_sheet() {
         read_sheet();
-        make_plan();
+        make_plans();
     }
 
     // The operations that take a plan as well; the number that reading it gives.
@@ -387,15 +394,37 @@ private:
         tally.count(reading_sheet, answer.number);
     }
 
-    void make_plan() {
-        const independent::PlanningAnswer answer = independent::make_plan(c.sheet, c.planning_room);
+    // All three planners, each into the case's room; what they say of each other, if the sheet is planned.
+    void make_plans() {
+        const PlanningAnswer removal = make_plan(Planner::removal, planning, "oblakosh_plan", oblakosh_plan);
+        const PlanningAnswer first_come = make_plan(Planner::first_come, planning_first, "oblakosh_plan_first", oblakosh_plan_first);
+        must_be_accepted(first_come, "first come's plan is accepted");
+        const PlanningAnswer better = make_plan(Planner::better, planning_better, "oblakosh_plan_better", oblakosh_plan_better);
+        must_be_accepted(better, "the better plan is accepted");
+        if (removal.cuts > 0) tally.cut_sheets++;
+        if (removal.number != 0) return;
+        if (better.finish != std::min(removal.finish, first_come.finish)) throw Difference("the better plan finishes with the earlier one");
+        const Sheet read = independent::read_sheet(c.sheet).sheet;
+        for (cases::PlannersSituation found : cases::situations_of(read, removal, first_come)) tally.planners[found]++;
+    }
+
+    PlanningAnswer make_plan(Planner planner, Operation operation, const char* name,
+                             oblakosh_planned (*function)(const uint8_t*, size_t, uint8_t*, size_t)) {
+        const PlanningAnswer answer = independent::make_plan(c.sheet, c.planning_room, planner);
         Lent<uint8_t> room(c.planning_room);
-        must_be_same("oblakosh_plan", answer, as_declared(answer),
-                     oblakosh_plan(sheet.first(), sheet.size(), room.first(), room.size()));
-        room.must_hold(answer.room, "oblakosh_plan");
-        inputs_must_be_unchanged("oblakosh_plan");
-        tally.count(planning, answer.number);
-        if (answer.cuts > 0) tally.cut_sheets++;
+        must_be_same(name, answer, as_declared(answer), function(sheet.first(), sheet.size(), room.first(), room.size()));
+        room.must_hold(answer.room, name);
+        inputs_must_be_unchanged(name);
+        tally.count(operation, answer.number);
+        return answer;
+    }
+
+    // A plan written is accepted by the independent judge with the finish that was told.
+    void must_be_accepted(const PlanningAnswer& answer, const char* what) const {
+        if (answer.number != 0) return;
+        const Bytes written(answer.room.begin(), answer.room.begin() + answer.length);
+        const independent::JudgeAnswer judged = independent::judge(c.sheet, written, std::vector<uint32_t>(128, 0));
+        if (judged.number != 0 || judged.finish != answer.finish) throw Difference(what);
     }
 
     uint32_t read_plan() {

@@ -69,16 +69,26 @@ inline uint32_t compare_judge(const Bytes& input) {
     return number_in(text);
 }
 
+// The word that asks the planner program for this planner.
+inline std::string word_for(independent::Planner planner) {
+    switch (planner) {
+        case independent::Planner::first_come: return " first";
+        case independent::Planner::better: return " better";
+        default: return "";
+    }
+}
+
 // Document 01 has no planner program: ours prints the plan, or the refusal as standard error.
-inline uint32_t compare_planner(const Bytes& sheet) {
-    const independent::PlanningAnswer answer = independent::make_plan(sheet, Bytes(156, 0));
+inline uint32_t compare_planner(const Bytes& sheet, independent::Planner planner) {
+    const independent::PlanningAnswer answer = independent::make_plan(sheet, Bytes(156, 0), planner);
     Printed wanted;
     if (answer.number == 0) {
         wanted.output = to_string(answer.room).substr(0, answer.length);
     } else {
         wanted.errors = "refused " + std::to_string(answer.number) + " at " + std::to_string(answer.place) + "\n";
     }
-    must_print(planner_path, sheet, wanted, run("planner", planner_path, sheet));
+    const std::string command = planner_path + word_for(planner);
+    must_print(command, sheet, wanted, run("planner", command, sheet));
     return answer.number;
 }
 

@@ -1,9 +1,12 @@
-// Holds the independent program to document 01's examples 1 to 15, to the sheets of cut-groups.txt, and to what document 01 says of every answer.
-// Run from the repository's folder, by compare/independent/run.
+// Holds the independent program to document 01's examples 1 to 15, to the sheets of cut-groups.txt and first-come.txt, and to what documents 01
+// and 02 say of every answer. Run from the repository's folder, by compare/independent/run. With the word first-come it writes that file's lines.
 
 #include <cstdio>
 #include <cstdlib>
+#include <cstring>
 #include <fstream>
+#include <set>
+#include <sstream>
 #include <string>
 
 #include "cases.hpp"
@@ -43,11 +46,12 @@ static Bytes together(const Bytes& a, const Bytes& b) {
     return both;
 }
 
+static const Bytes S = cases::from_hex(
+    "01 002D 02 00C8 012C 00C8 012C 02"
+    "00 00000000 02 00 03E8 0064 01 03E8 0000"
+    "01 000001F4 02 01 03E8 0064 00 03E8 0000");
+
 static void examples() {
-    const Bytes S = cases::from_hex(
-        "01 002D 02 00C8 012C 00C8 012C 02"
-        "00 00000000 02 00 03E8 0064 01 03E8 0000"
-        "01 000001F4 02 01 03E8 0064 00 03E8 0000");
     const Bytes A = cases::from_hex("01 000A 02 02 00 01 02 00 01");
     const Bytes B = cases::from_hex("01 000A 02 02 00 01 02 01 00");
     const std::vector<uint32_t> words(130, 77);
@@ -302,11 +306,14 @@ static void run_case(Random& random, const Case& c, bool whole_run) {
     check((verdict.number == 22) == !verdict.ring.empty(), "a ring exactly with 22");
     if (verdict.number != 0) check(verdict.words == c.words && verdict.finish == 0 && verdict.moves == 0, "refused");
 
-    const PlanningAnswer planning = make_plan(c.sheet, c.planning_room);
-    check(planning.number <= 14 || planning.number == 28, "planning has 1 to 14 and 28");
-    if (planning.number != 0) {
-        check(planning.room == c.planning_room && planning.length == 0 && planning.finish == 0, "refused: room as lent");
-    } else {
+    for (Planner planner : {Planner::removal, Planner::first_come, Planner::better}) {
+        const PlanningAnswer planning = make_plan(c.sheet, c.planning_room, planner);
+        check(planning.number <= 14 || planning.number == 28, "planning has 1 to 14 and 28");
+        check(planning.number == 28 || planning.number == sheet.number, "planning refuses as reading the sheet");
+        if (planning.number != 0) {
+            check(planning.room == c.planning_room && planning.length == 0 && planning.finish == 0, "refused: room as lent");
+            continue;
+        }
         const Bytes planned(planning.room.begin(), planning.room.begin() + planning.length);
         const JudgeAnswer judged = judge(c.sheet, planned, std::vector<uint32_t>(128, 1));
         check(judged.number == 0 && judged.finish == planning.finish, "the planner's plan is accepted");
@@ -328,6 +335,199 @@ static void run_case(Random& random, const Case& c, bool whole_run) {
 
     check_scan(random, c);
     if (whole_run) check_whole_run(random, c);
+}
+
+// ---------------------------------------------------------------------------------------------
+// The planners of #101
+// ---------------------------------------------------------------------------------------------
+
+static uint64_t planners_seen[cases::planners_situations] = {};
+
+// A cart's next move by document 01's words and the lists themselves, not by way of independent.hpp's orders.
+static bool may_move(const Sheet& sheet, const Lists& lists, const Positions& positions, uint32_t cart) {
+    const std::vector<Step>& route = sheet.carts[cart].steps;
+    if (positions[cart] > route.size()) return false;
+    if (positions[cart] == route.size()) return true;
+    for (uint32_t ahead : lists[route[positions[cart]].zone]) {
+        if (ahead == cart) break;
+        uint32_t step = 0;
+        while (sheet.carts[ahead].steps[step].zone != route[positions[cart]].zone) step++;
+        if (positions[ahead] < step + 2) return false;
+    }
+    return true;
+}
+
+// Every state that permitted moves reach; whether all carts are out in one of them.
+static bool search_brings_all_out(const Sheet& sheet, const Lists& lists) {
+    const Positions start(sheet.carts.size(), 0);
+    std::set<Positions> reached = {start};
+    std::vector<Positions> open = {start};
+    bool all_out = false;
+    while (!open.empty()) {
+        const Positions now = open.back();
+        open.pop_back();
+        bool some_inside = false;
+        for (uint32_t cart = 0; cart < sheet.carts.size(); cart++) {
+            if (now[cart] <= sheet.carts[cart].steps.size()) some_inside = true;
+            if (!may_move(sheet, lists, now, cart)) continue;
+            Positions after = now;
+            after[cart]++;
+            if (reached.insert(after).second) open.push_back(after);
+        }
+        if (!some_inside) all_out = true;
+    }
+    return all_out;
+}
+
+// All three planners on a valid sheet, into room with bytes beyond; what #101 says of them, and what the search finds.
+static void check_planners(const Bytes& bytes) {
+    const Sheet sheet = read_sheet(bytes).sheet;
+    const uint32_t length = static_cast<uint32_t>(4 + sheet.zones.size()) + count_steps(sheet);
+    PlanningAnswer answers[3];
+    for (int p = 0; p < 3; p++) {
+        const Planner planner = p == 0 ? Planner::removal : p == 1 ? Planner::first_come : Planner::better;
+        answers[p] = make_plan(bytes, Bytes(length + 2, 171), planner);
+        check(answers[p].number == 0 && answers[p].length == length, "a valid sheet is planned");
+        check(answers[p].room[length] == 171 && answers[p].room[length + 1] == 171, "bytes beyond the plan are untouched");
+        const PlanningAnswer tight = make_plan(bytes, Bytes(length, 0), planner);
+        check(tight.finish == answers[p].finish && std::equal(tight.room.begin(), tight.room.end(), answers[p].room.begin()),
+              "exactly the plan's length is room enough");
+        const PlanningAnswer refused = make_plan(bytes, Bytes(length - 1, 171), planner);
+        check(refused.number == 28 && refused.place == 0 && refused.length == 0 && refused.finish == 0 &&
+                  refused.room == Bytes(length - 1, 171),
+              "one byte less: 28");
+        const Bytes plan(answers[p].room.begin(), answers[p].room.begin() + length);
+        const PlanAnswer read = read_plan(bytes, plan);
+        check(read.number == 0, "the planner's plan is readable");
+        if (count_states(sheet) <= 400) check(search_brings_all_out(sheet, read.lists), "the planner's plan is not locked, by search");
+        check(judge(bytes, plan, std::vector<uint32_t>(128, 0)).finish == answers[p].finish, "finish is the judge's");
+        if (p != 1) continue;
+        for (const std::vector<uint32_t>& list : read.lists) {
+            for (size_t i = 1; i < list.size(); i++) {
+                const uint32_t before = sheet.carts[list[i - 1]].arrival, after = sheet.carts[list[i]].arrival;
+                check(before < after || (before == after && list[i - 1] < list[i]), "by arrival, then cart number");
+            }
+        }
+    }
+    const PlanningAnswer& wanted = answers[1].finish < answers[0].finish ? answers[1] : answers[0];
+    check(answers[2].finish <= answers[0].finish && answers[2].finish <= answers[1].finish, "better is no later than either");
+    check(answers[2].finish == wanted.finish && answers[2].room == wanted.room, "better is the earlier, the removal plan if equal");
+    for (cases::PlannersSituation found : cases::situations_of(sheet, answers[0], answers[1])) planners_seen[found]++;
+}
+
+// All routes and lanes. Among all plans of the smallest, first come's is accepted and the better plan is no earlier than the
+// earliest accepted; of three carts on three zones some sheets are taken.
+static void check_planners_on_tiny() {
+    Random random(101);
+    uint32_t sheets = 0, plans = 0;
+    for (uint32_t m = 1; m <= 3; m++) {
+        for (uint32_t n = 2; n <= (m == 3 ? 2 : 3); n++) {
+            for (const std::vector<uint32_t>& lanes : cases::all_lanes(m)) {
+                Bytes first_come;
+                uint32_t finish = 0, better = 0, least = 0;
+                bool met = true;
+                cases::for_every_tiny_crossing(random, m, n, lanes, [&](const Sheet& sheet, const Lists& lists, bool first) {
+                    const Bytes bytes = cases::sheet_to_bytes(sheet);
+                    if (first) {
+                        check(met && better >= least, "first come's plan is an accepted one, and the better plan no earlier than the earliest");
+                        check_planners(bytes);
+                        const PlanningAnswer answer = make_plan(bytes, Bytes(156, 0), Planner::first_come);
+                        first_come.assign(answer.room.begin(), answer.room.begin() + answer.length);
+                        finish = answer.finish;
+                        better = make_plan(bytes, Bytes(156, 0), Planner::better).finish;
+                        least = 18900000;
+                        met = false;
+                        sheets++;
+                    }
+                    const Bytes plan = cases::plan_to_bytes(lists);
+                    const JudgeAnswer judged = judge(bytes, plan, std::vector<uint32_t>(128, 0));
+                    plans++;
+                    if (judged.number == 0) least = std::min(least, judged.finish);
+                    if (plan == first_come) met = judged.number == 0 && judged.finish == finish;
+                });
+                check(met && better >= least, "first come's plan is an accepted one, and the better plan no earlier than the earliest");
+            }
+        }
+    }
+    std::printf("selftest: the planners on %u tiny sheets, among all their %u plans\n", sheets, plans);
+    sheets = 0;
+    for (const std::vector<uint32_t>& lanes : cases::all_lanes(3)) {
+        cases::for_every_tiny_crossing(random, 3, 3, lanes, [&](const Sheet& sheet, const Lists&, bool first) {
+            if (!first || !random.one_in(10)) return;
+            check_planners(cases::sheet_to_bytes(sheet));
+            sheets++;
+        });
+    }
+    std::printf("selftest: the planners on %u sheets of three carts on three zones\n", sheets);
+}
+
+// ---------------------------------------------------------------------------------------------
+// Stored sheets for the planners of #101
+// ---------------------------------------------------------------------------------------------
+
+constexpr const char* first_come_file = "compare/independent/first-come.txt";
+
+// A line of the file: the sheet, first come's plan and finish, the better plan and finish.
+static std::string first_come_line(const Bytes& sheet) {
+    std::string line = hex(sheet);
+    for (Planner planner : {Planner::first_come, Planner::better}) {
+        const PlanningAnswer answer = make_plan(sheet, Bytes(156, 0), planner);
+        check(answer.number == 0, "stored: a valid sheet");
+        line += " " + hex(Bytes(answer.room.begin(), answer.room.begin() + answer.length)) + " " + std::to_string(answer.finish);
+    }
+    return line;
+}
+
+static void print_first_come_lines() {
+    std::printf("# Valid sheets for the planners of #101, a line each: the sheet in hex, first come's plan and finish, the better plan and finish.\n");
+    std::printf("# Document 01's S first. Written by the independent program (selftest first-come), which holds itself to them.\n");
+    std::vector<Bytes> sheets = {S, S, cases::from_hex("01 0009 01 0000 0000 00"), cases::sheet_to_bytes(cases::longest_sheet())};
+    sheets[1][29] = 0;                                                 // S with cart 1 on lane 0
+    // so many sheets of each situation, of the shapes in turn
+    Random random(2019);
+    uint32_t wanted[cases::planners_situations] = {8, 10, 8, 5, 4, 2};
+    for (uint32_t tried = 0; sheets.size() < 41; tried++) {
+        Sheet sheet;
+        switch (tried % 4) {
+            case 0: sheet = cases::random_sheet(random, cases::Shape{2, 3, 3, 4, 3, true}); break;
+            case 1: sheet = cases::random_sheet(random, cases::small_shape()); break;
+            case 2: sheet = cases::random_sheet(random, cases::dense_shape()); break;
+            default: sheet = cases::random_sheet_for_planners(random); break;
+        }
+        const Bytes bytes = cases::sheet_to_bytes(sheet);
+        const PlanningAnswer removal = make_plan(bytes, Bytes(156, 0));
+        bool take = false;
+        for (cases::PlannersSituation found :
+             cases::situations_of(sheet, removal, make_plan(bytes, Bytes(156, 0), Planner::first_come))) {
+            if (wanted[found] == 0) continue;
+            wanted[found]--;
+            take = true;
+            break;
+        }
+        if (take) sheets.push_back(bytes);
+    }
+    for (const Bytes& sheet : sheets) std::printf("%s\n", first_come_line(sheet).c_str());
+}
+
+static void run_first_come() {
+    std::ifstream input(first_come_file);
+    std::string line;
+    uint32_t sheets = 0;
+    uint64_t seen_before[cases::planners_situations];
+    std::memcpy(seen_before, planners_seen, sizeof planners_seen);
+    while (std::getline(input, line)) {
+        if (line.empty() || line[0] == '#') continue;
+        const Bytes sheet = cases::from_hex(line.substr(0, line.find(' ')));
+        check(line == first_come_line(sheet), "first come: the stored plans and finishes");
+        check(sheets > 0 || sheet == S, "first come: S is the first sheet");
+        check_planners(sheet);
+        sheets++;
+    }
+    check(sheets >= 40, "first come: 40 sheets");
+    for (int s = 0; s < cases::planners_situations; s++) {
+        check(planners_seen[s] > seen_before[s], std::string("first come: never seen ") + cases::planners_situation_names[s]);
+    }
+    std::printf("selftest: %u stored sheets of the planners\n", sheets);
 }
 
 static void describe(const Case& c) {
@@ -376,11 +576,22 @@ static void run_cut_groups() {
     std::printf("selftest: %u sheets with cut groups\n", sheets);
 }
 
-int main() {
+int main(int words, char** word) {
     try {
+        if (words == 2 && std::strcmp(word[1], "first-come") == 0) {
+            print_first_come_lines();
+            return 0;
+        }
         examples();
         std::printf("selftest: examples 1 to 15 as document 01 says\n");
         run_cut_groups();
+        run_first_come();
+        check_planners_on_tiny();
+        Random random(7);
+        for (uint32_t i = 0; i < 1500; i++) check_planners(cases::sheet_to_bytes(cases::random_sheet_for_planners(random)));
+        for (int s = 0; s < cases::planners_situations; s++) {
+            check(planners_seen[s] > 0, std::string("planners: never seen ") + cases::planners_situation_names[s]);
+        }
     } catch (const std::exception& error) {
         std::fprintf(stderr, "selftest: failed: %s\n", error.what());
         return 1;

@@ -14,7 +14,8 @@ void *raw_judge(void *answer, const uint8_t *s, size_t s_length, const uint8_t *
                 size_t words_length) RAW(judge);
 void *raw_write_again(void *answer, const uint8_t *s, size_t s_length, const uint8_t *p, size_t p_length, uint8_t *room,
                       size_t room_length) RAW(write_again);
-void *raw_plan(void *answer, const uint8_t *s, size_t s_length, uint8_t *room, size_t room_length) RAW(plan);
+typedef void *raw_planner(void *answer, const uint8_t *s, size_t s_length, uint8_t *room, size_t room_length);
+raw_planner raw_plan RAW(plan), raw_plan_first RAW(plan_first), raw_plan_better RAW(plan_better);
 void *raw_find_list(void *answer, const uint8_t *s, size_t s_length, const uint8_t *p, size_t p_length, size_t zone) RAW(find_list);
 void *raw_ask(void *answer, const uint8_t *s, size_t s_length, const uint8_t *p, size_t p_length, oblakosh_record record,
               size_t cart) RAW(ask);
@@ -273,15 +274,15 @@ static void writing_again(void)
     IS_REFUSED(not_written.outcome);
 }
 
-static void planning(void)
+static void planning(raw_planner *raw)
 {
-    raw_plan(blank(), SHEET(apart), room, sizeof room);
+    raw(blank(), SHEET(apart), room, sizeof room);
     TAKE(oblakosh_planned, planned);
     IS_DONE(planned.outcome);
     IS(planned.length, apart.p.length);
     IS(oblakosh_judge(SHEET(apart), room, planned.length, words, OBLAKOSH_WORDS).outcome.number, 0u);
     IS(planned.finish, finish_by_words());
-    raw_plan(blank(), SHEET(refused), room, sizeof room);
+    raw(blank(), SHEET(refused), room, sizeof room);
     TAKE(oblakosh_planned, not_planned);
     IS_REFUSED(not_planned.outcome);
 }
@@ -342,7 +343,9 @@ int main(void)
     judging();
 #ifdef CONTROLLER
     writing_again();
-    planning();
+    planning(raw_plan);
+    planning(raw_plan_first);
+    planning(raw_plan_better);
     finding_a_list();
     moving();
 #endif

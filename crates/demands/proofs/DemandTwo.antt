@@ -53,8 +53,7 @@ use Rattle.plan_writer.specs.Writing.{writingChecks, notWritten, wrote, writeAg
 use Rattle.plan_writer.specs.declared.PlanWritten.{PlanWritten}
 use Rattle.plan_writer.proofs.SameBytes.{same-bytes}
 use Rattle.crossing.specs.inner.Tables.{crossingBy}
-use Rattle.crossing.specs.Plans.{sheetGiven}
-use Rattle.crossing.specs.Plans.{routesOf, listsOf, planCrossing}
+use Rattle.crossing.specs.Plans.{sheetGiven, routesOf, listsOf, planCrossing}
 use Rattle.crossing.proofs.Tables.{step-below}
 use Rattle.crossing.proofs.Plans.{plan-complete, plan-sound}
 use Rattle.judge_entering.specs.Times.{timesOf}
@@ -66,6 +65,7 @@ use Rattle.judge.proofs.Outcomes.{judge-locked, judge-accepted, words-accepted,
 use Rattle.moving.proofs.Counts.{moves-are}
 use Rattle.planner.specs.Planning.{plannedOrders, planned, notPlanned, planningChecks, withPlan, planSheet, roomAfter as roomPlanned}
 use Rattle.planner.specs.declared.Planned.{Planned}
+use Rattle.planner.specs.declared.Rule.{Rule}
 use Rattle.planner.proofs.NotLocked.{planned-read, planned-length, planned-finish, planned-judged}
 use Rattle.demands.specs.DemandTwo as two
 use Rattle.demands.specs.DemandTwo.{Readable, given, Verdict, TimesTold, JudgedRightly, PlannedRightly, ReadBack, SameBytes}
@@ -185,54 +185,62 @@ module _ (s p : List ℕ) where
           last = last;
           bound = omega (arith, last, finish-bound X G only all (timesOf after) told ranged);
           counted = counted;
-          no-carts = λ none. let v = said-sheet s p readable in (last ∙ finish-no-carts (sheetOf s) v none (ordersRead s p) (timesOf after), omega (arith, counted, no-steps (sheetOf s) v none));
+          no-carts = λ none. let v = said-sheet s p readable in (
+            last ∙ finish-no-carts (sheetOf s) v none (ordersRead s p) (timesOf after),
+            omega
+                (arith, counted, no-steps (sheetOf s) v none),
+          );
         }
       where
         counted : r .moves ≡ sum (sheetOf s .steps) + sheetOf s .carts
         counted = ap (λ (x : Judged). x .moves) e ∙ moves-are (sheetOf s) (ordersRead s p) (said-sheet s p readable)
 
 -- both sentences, of what judging answers and leaves in the words
-pub judged-rightly : (s p words : List ℕ) (r : Judged) (after : List ℕ) → r ≡ judge s p (length words) → after ≡ wordsAfter s p words → JudgedRightly s p (length words) r after
+pub judged-rightly : (s p words : List ℕ) (r : Judged) (after : List ℕ) → r ≡ judge s p (length words) → after ≡ wordsAfter s p words → JudgedRightly
+    s p (length words) r after
 judged-rightly s p words r after e f = record {
   verdict = verdict-published s p (length words) r e;
   times = λ ok.
       let (readable, accepted, long) = number-accepted s p (length words) (sym (ap (λ (x : Judged). x .outcome .number) e) ∙ ok) in
-      times-published s p readable accepted words after (f ∙ words-accepted s p readable accepted words long) r (e ∙ judge-accepted s p readable accepted (length words) long);
+      times-published s p readable accepted words after (f ∙ words-accepted s p readable accepted words long) r
+      (e ∙ judge-accepted s p readable accepted (length words) long);
 }
 
 -- ---- the planner
 
-module _ (s : List ℕ) where
+module _ (rule : Rule) (s : List ℕ) where
   abbrev sheet : Sheet
   sheet = sheetOf s
 
   abbrev ownCheck : ℕ → List Check
   ownCheck room = check 28 0 (leb (planLength sheet) room) ∷ []
 
-  planning-passes : (room : ℕ) → planSheet s room .outcome .number ≡ 0 → (readSheet s ≡ sheetDone sheet) × (planLength sheet ≤ room)
+  planning-passes : (room : ℕ) → planSheet rule s room .outcome .number ≡ 0 → (readSheet s ≡ sheetDone sheet) × (planLength sheet ≤ room)
   unfolding planSheet
   planning-passes room e =
       let all : AllPass (planningChecks s room) =
-      done-passes (λ (r : Planned). r .outcome) notPlanned (planned sheet) (λ o. refl) (planningChecks s room)
+      done-passes (λ (r : Planned). r .outcome) notPlanned (planned sheet rule) (λ o. refl) (planningChecks s room)
       (all-append (λ (c : Check). 0 < c .number) (sheetChecks s) (ownCheck room) (sheet-numbered s) (omega arith, tt)) e in
       let own : leb (planLength sheet) room ≡ true = all-later (λ (c : Check). c .passed ≡ true) (sheetChecks s) (ownCheck room) all .0 in
       (passes-accepted s (all-first (λ (c : Check). c .passed ≡ true) (sheetChecks s) (ownCheck room) all), leb-true (planLength sheet) room own)
 
   module _ (accepted : readSheet s .outcome .number ≡ 0) where
-    planning-done : (room : ℕ) → planLength sheet ≤ room → planSheet s room ≡ planned sheet
+    planning-done : (room : ℕ) → planLength sheet ≤ room → planSheet rule s room ≡ planned sheet rule
     unfolding planSheet firstFailing
-    planning-done room l = first-pass notPlanned (planned sheet) (sheetChecks s) (ownCheck room) (accepted-passes s accepted) ∙ rw (le-leb (planLength sheet) room l)
+    planning-done room l = first-pass notPlanned (planned sheet rule) (sheetChecks s) (ownCheck room) (accepted-passes s accepted) ∙ rw
+        (le-leb (planLength sheet) room l)
 
-    room-done : (room : List ℕ) → planLength sheet ≤ length room → roomPlanned s room ≡ withPlan s room
+    room-done : (room : List ℕ) → planLength sheet ≤ length room → roomPlanned rule s room ≡ withPlan rule s room
     unfolding roomPlanned firstFailing
-    room-done room l = first-pass (λ _. room) (withPlan s room) (sheetChecks s) (ownCheck (length room)) (accepted-passes s accepted) ∙ rw (le-leb (planLength sheet) (length room) l)
+    room-done room l = first-pass (λ _. room) (withPlan rule s room) (sheetChecks s) (ownCheck (length room)) (accepted-passes s accepted) ∙ rw
+        (le-leb (planLength sheet) (length room) l)
 
-  planned-outcome : planned sheet .outcome .number ≡ 0
+  planned-outcome : planned sheet rule .outcome .number ≡ 0
   unfolding planned
   planned-outcome = refl
 
-  module _ (room : List ℕ) (r : Planned) (after : List ℕ) (is : r ≡ planSheet s (length room)) (holds : after ≡ roomPlanned s room) where
-    told-number : r .outcome .number ≡ planSheet s (length room) .outcome .number
+  module _ (room : List ℕ) (r : Planned) (after : List ℕ) (is : r ≡ planSheet rule s (length room)) (holds : after ≡ roomPlanned rule s room) where
+    told-number : r .outcome .number ≡ planSheet rule s (length room) .outcome .number
     told-number = ap (λ (x : Planned). x .outcome .number) is
 
     module _ (ok : r .outcome .number ≡ 0) where
@@ -248,28 +256,28 @@ module _ (s : List ℕ) where
       fits : planLength sheet ≤ length room
       fits = planning-passes (length room) (sym told-number ∙ ok) .1
 
-      planned-is : r ≡ planned sheet
+      planned-is : r ≡ planned sheet rule
       planned-is = is ∙ planning-done sheet-accepted (length room) fits
 
       -- what stands at the start of the room
-      plan-is : take (r .length) after ≡ written (sheet .zones) (plannedOrders sheet)
+      plan-is : take (r .length) after ≡ written (sheet .zones) (plannedOrders sheet rule)
       unfolding planned
       plan-is =
           ap (λ (x : Planned). take (x .length) after) planned-is
           ∙ ap (take (planLength sheet)) (holds ∙ room-done sheet-accepted room fits)
-          ∙ take-at (written (sheet .zones) (plannedOrders sheet)) (drop (planLength sheet) room) (planLength sheet) (planned-length sheet valid)
+          ∙ take-at (written (sheet .zones) (plannedOrders sheet rule)) (drop (planLength sheet) room) (planLength sheet) (planned-length sheet valid rule)
 
-    pub planned-rightly : PlannedRightly s room r after
+    pub planned-rightly : PlannedRightly rule s room r after
     planned-rightly = record {
       answers = (
         λ ok. (sheet-accepted ok, fits ok),
         λ (accepted, l). told-number ∙ ap (λ (x : Planned). x .outcome .number) (planning-done accepted (length room) l) ∙ planned-outcome,
       );
-      by-the-rule = λ ok. ap (readPlan s) (plan-is ok) ∙ planned-read sheet (valid ok) s (read ok);
+      by-the-rule = λ ok. ap (readPlan s) (plan-is ok) ∙ planned-read sheet (valid ok) rule s (read ok);
       not-locked = λ ok words l.
-          let judged-is = ap (λ (p : List ℕ). judge s p words) (plan-is ok) ∙ planned-judged sheet (valid ok) s (read ok) words l in (
+          let judged-is = ap (λ (p : List ℕ). judge s p words) (plan-is ok) ∙ planned-judged sheet (valid ok) rule s (read ok) words l in (
             ap (λ (x : Judged). x .outcome .number) judged-is,
-            ap (λ (x : Judged). x .finish) judged-is ∙ sym (planned-finish sheet (valid ok)) ∙ ap (λ (x : Planned). x .finish) (sym (planned-is ok)),
+            ap (λ (x : Judged). x .finish) judged-is ∙ sym (planned-finish sheet (valid ok) rule) ∙ ap (λ (x : Planned). x .finish) (sym (planned-is ok)),
           );
     }
 
@@ -304,7 +312,8 @@ module _ (s p room : List ℕ) where
       pass-answers notWritten (wrote s) checks (checks-say .passes (reading-says s p .passing (read-passes s p readable), omega (arith, plan-long readable)))
 
   -- "a readable plan written again gives the same bytes"
-  pub written-again-same : (r : PlanWritten) (after : List ℕ) → Bytes p → r ≡ writeAgain s p (length room) → after ≡ roomAfter s p room → SameBytes s p room r after
+  pub written-again-same : (r : PlanWritten) (after : List ℕ) → Bytes p → r ≡ writeAgain s p (length room) → after ≡ roomAfter s p room → SameBytes s
+      p room r after
   written-again-same r after b e f =
       let number-is : r .outcome .number ≡ writeAgain s p (length room) .outcome .number = ap (λ (w : PlanWritten). w .outcome .number) e in
       record {

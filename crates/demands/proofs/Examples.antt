@@ -21,7 +21,7 @@ use Rattle.plan.specs.Checks.{planChecks, listChecks, cartChecks as planCartChe
 use Rattle.plan.specs.Reading.{ordersOf, readPlan}
 use Rattle.plan.specs.Valid.{sumBelow}
 use Rattle.plan.specs.Written.{listBytes, listsBytes, written}
-use Rattle.crossing.specs.Plans.{givenBy}
+use Rattle.crossing.specs.Plans.{givenBy, ordersBy}
 use Rattle.judge_ring.specs.Ring.{lowestStuck, ringFrom}
 use Rattle.judge.specs.Judging.{lockedRing, timeWords, judge, wordsAfter}
 use Rattle.removal.specs.Pairs.{isDecided, rank, isPair}
@@ -30,8 +30,8 @@ use Rattle.times.specs.Running.{movesMade, isOut, enteringTime}
 use Rattle.removal.specs.Spare.{workedBack, leastOf, spareRule, spareTime}
 use Rattle.removal.specs.Cost.{isTakenOver, cost, largestCost}
 use Rattle.removal.specs.While.{turns, while}
-use Rattle.removal.specs.Removal.{candidates, decide, turn, trial, solved, decisions, finalOrders, passingLists, plannedLists}
-use Rattle.planner.specs.Planning.{ordersBy, plannedOrders, planned, planSheet, roomAfter}
+use Rattle.removal.specs.Removal.{candidates, decide, turn, trial, solved, decisions, finalOrders, passingLists}
+use Rattle.planner.specs.Planning.{orderedBy, planned, planSheet, roomAfter}
 use Rattle.moving_record.specs.Record.{isReached}
 use Rattle.moving_asking.specs.Ahead.{countAhead, aheadOf}
 use Rattle.moving_asking.specs.Asking.{ask}
@@ -39,5 +39,47 @@ use Rattle.moving.specs.Moving.{recordAfter}
 use Rattle.demands.specs.Examples.{firstCost, leavingTimes, Holds, examples}
 
 pub examples-hold : All Holds examples
-unfolding firstCost leavingTimes planSheet roomAfter planned plannedOrders ordersBy plannedLists passingLists finalOrders decisions solved trial turn decide candidates while turns largestCost cost isTakenOver spareTime spareRule leastOf workedBack movesMade isOut enteringTime isUndecided goesBefore pairOrder isPair rank isDecided written listsBytes listBytes bytesOf sumBelow setBelow readSheet readPlan judge wordsAfter ask recordAfter aheadOf countAhead isReached isInRange isClosed lockedRing timeWords lowestStuck ringFrom lowest isPermitted greedy end put workedOut leastFrom between ringFirst ringRest allBelow placeOf isAhead firstOf largest entering finish givenBy ordersOf sheetChecks zoneChecks stepChecks cartChecks laneChecks firstFailing fieldChecks value each entries anyBelow countBelow cartAt sheetOf countAt planChecks listChecks planCartChecks planLaneChecks
-examples-hold = ((refl, refl), (refl, ((refl, refl), ((refl, refl), (refl, (refl, (refl, (refl, ((refl, refl), (refl, (refl, (refl, ((refl, refl), ((refl, refl), ((refl, refl), ((refl, refl), ((refl, refl), ((refl, refl), ((refl, refl), ((refl, refl), ((refl, refl), tt)))))))))))))))))))))
+unfolding firstCost leavingTimes planSheet roomAfter planned orderedBy ordersBy passingLists finalOrders decisions solved trial turn decide candidates while turns largestCost cost isTakenOver spareTime spareRule leastOf workedBack movesMade isOut enteringTime isUndecided goesBefore pairOrder isPair rank isDecided written listsBytes listBytes bytesOf sumBelow setBelow readSheet readPlan judge wordsAfter ask recordAfter aheadOf countAhead isReached isInRange isClosed lockedRing timeWords lowestStuck ringFrom lowest isPermitted greedy end put workedOut leastFrom between ringFirst ringRest allBelow placeOf isAhead firstOf largest entering finish givenBy ordersOf sheetChecks zoneChecks stepChecks cartChecks laneChecks firstFailing fieldChecks value each entries anyBelow countBelow cartAt sheetOf countAt planChecks listChecks planCartChecks planLaneChecks
+examples-hold = (
+  (refl, refl),
+  (
+    refl,
+    (
+      (refl, refl),
+      (
+        (refl, refl),
+        (
+          refl,
+          (
+            refl,
+            (
+              refl,
+              (
+                refl,
+                (
+                  (refl, refl),
+                  (
+                    refl,
+                    (
+                      refl,
+                      (
+                        refl,
+                        (
+                          (refl, refl),
+                          (
+                            (refl, refl),
+                            ((refl, refl), ((refl, refl), ((refl, refl), ((refl, refl), ((refl, refl), ((refl, refl), ((refl, refl), tt))))))),
+                          ),
+                        ),
+                      ),
+                    ),
+                  ),
+                ),
+              ),
+            ),
+          ),
+        ),
+      ),
+    ),
+  ),
+)

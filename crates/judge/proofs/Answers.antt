@@ -45,7 +45,8 @@ module _ (sheet : Sheet) (orders : Orders) (v : Valid sheet) (w : ValidOrders sh
   ends = settled-end sheet orders v w (sheetGiven sheet) enter order run runs
 
   pub locked-answer : run .out ≡ false → (ring : Ring)
-      → ring ≡ ringBy (pointIn (sheet .steps) (sheet .zone) (orders .count) (orders .list) (run .at) (run .left)) (wantedIn (sheet .steps) (sheet .zone) (run .at)) 16 (run .stuck)
+      → ring ≡ ringBy (pointIn (sheet .steps) (sheet .zone) (orders .count) (orders .list) (run .at) (run .left))
+      (wantedIn (sheet .steps) (sheet .zone) (run .at)) 16 (run .stuck)
       → JudgedAs sheet orders words (notJudged (refused 22 0) ring) words
   unfolding firstFailing lockedRing
   locked-answer l ring is =
@@ -68,7 +69,8 @@ module _ (sheet : Sheet) (orders : Orders) (v : Valid sheet) (w : ValidOrders sh
     all-out = ends ∙ end-says (planCrossing sheet orders) .0 accepted
 
     times : EnteringTimes X (sheetGiven sheet) (timesOf enter)
-    times = settled-times X (sheetGiven sheet) (run .at) (run .left) enter order (run .made) (runs .settled) (all-out ∙ ap (λ (S : System). S .out) (sym (plan-system sheet v orders w)))
+    times = settled-times X (sheetGiven sheet) (run .at) (run .left) enter order (run .made) (runs .settled)
+        (all-out ∙ ap (λ (S : System). S .out) (sym (plan-system sheet v orders w)))
 
     pub accepted-answer : 128 ≤ length words → (last : ℕ) → last ≡ largest (lastLeaving (sheet .steps) (sheet .passing) enter) 16
         → (after : List ℕ) → after ≡ enter ++ drop 128 words
@@ -76,6 +78,13 @@ module _ (sheet : Sheet) (orders : Orders) (v : Valid sheet) (w : ValidOrders sh
     unfolding firstFailing
     accepted-answer l last is after copied = rw (accepted, le-leb 128 (length words) l) (
       ap (λ (n : ℕ). record { outcome = done; finish = n; moves = run .made; ring = noRing }) (is ∙ finish-told sheet orders v w accepted enter times)
-          ∙ ap (λ (n : ℕ). record { outcome = done; finish = finish (planCrossing sheet orders) (sheetGiven sheet) (enteringTime sheet orders); moves = n; ring = noRing }) (runs .settled .counted ∙ ap sum all-out),
-      copied ∙ ap (λ (t : List ℕ). t ++ drop 128 words) (words-told sheet orders v w accepted enter times (runs .settled .enter-128) (λ c p few n. runs .settled .not-entered c p few (λ e. n (e .1)))),
+          ∙ ap (λ (n : ℕ). record {
+            outcome = done;
+            finish = finish (planCrossing sheet orders) (sheetGiven sheet) (enteringTime sheet orders);
+            moves
+                = n;
+            ring = noRing;
+          }) (runs .settled .counted ∙ ap sum all-out),
+      copied ∙ ap (λ (t : List ℕ). t ++ drop 128 words) (words-told sheet orders v w accepted enter times (runs .settled .enter-128)
+          (λ c p few n. runs .settled .not-entered c p few (λ e. n (e .1)))),
     )

@@ -49,8 +49,10 @@ module _ (sheet : Sheet) (orders : Orders) (at : List ℕ) where
       k = steps-is (sheet .steps) (sheet .zone) (orders .ahead) c l
 
       go : Dec (pos at c < steps X c) → wantedIn (sheet .steps) (sheet .zone) at c ≡ zone X c (pos at c)
-      go (yes h) = rw (lt-ltb (getD at c 0) (getD (sheet .steps) c 0) (omega (arith, h, k))) (sym (zone-is (sheet .steps) (sheet .zone) (orders .ahead) c l (pos at c) h))
-      go (no m) = rw (le-ltb (getD at c 0) (getD (sheet .steps) c 0) (omega (arith, m, k))) (sym (List·getD-eq-default (route X c) 0 {n = pos at c} (omega (arith, m))))
+      go (yes h) = rw (lt-ltb (getD at c 0) (getD (sheet .steps) c 0) (omega (arith, h, k)))
+          (sym (zone-is (sheet .steps) (sheet .zone) (orders .ahead) c l (pos at c) h))
+      go (no m) = rw (le-ltb (getD at c 0) (getD (sheet .steps) c 0) (omega (arith, m, k)))
+          (sym (List·getD-eq-default (route X c) 0 {n = pos at c} (omega (arith, m))))
 
   module _ (v : Valid sheet) (w : ValidOrders sheet orders) (left : List ℕ) (left-is : (z : ℕ) → LeftSet X at z (getD left z 0)) where
     list-is : (z : ℕ) → z < sheet .zones → listOf (listsOf sheet orders) z ≡ passingList orders z
@@ -80,6 +82,7 @@ module _ (sheet : Sheet) (orders : Orders) (at : List ℕ) where
     points-is c l h =
         let z = wantedIn (sheet .steps) (sheet .zone) at c in
         let test : ℕ → Bool = λ d. ltb (pos at d) (leftAt X d z) in
-        first-same (λ d. not (has (getD left z 0) d)) test (listed orders z) (count orders z) 0 (λ k _ b. left-same (listed orders z k) z (listed-visits z h k (omega (arith, b))))
+        first-same (λ d. not (has (getD left z 0) d)) test (listed orders z) (count orders z) 0
+        (λ k _ b. left-same (listed orders z k) z (listed-visits z h k (omega (arith, b))))
         ∙ ap (firstOf test) (sym (list-is z h))
         ∙ ap (λ (y : ℕ). firstOf (λ d. ltb (pos at d) (leftAt X d y)) (listOf (listsOf sheet orders) y)) (wanted-is c l)

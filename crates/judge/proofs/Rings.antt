@@ -76,7 +76,8 @@ module _ (sheet : Sheet) (v : Valid sheet) (at : List ℕ) where
       point-below c =
           let z = wantedIn (sheet .steps) (sheet .zone) at c in
           let l : z < 24 = omega (arith, wanted-below c, v .zones-most) in
-          first-below (λ d. not (has (getD left z 0) d)) (listed orders z) 16 (count orders z) 0 (omega arith) (λ k _ b. orders-listable z l .cart k (omega (arith, b)))
+          first-below (λ d. not (has (getD left z 0) d)) (listed orders z) 16 (count orders z) 0 (omega arith)
+          (λ k _ b. orders-listable z l .cart k (omega (arith, b)))
 
       plan-carts : carts (system (planCrossing sheet orders)) ≡ 16
       unfolding crossingBy
@@ -90,4 +91,5 @@ module _ (sheet : Sheet) (v : Valid sheet) (at : List ℕ) where
           (λ d l. points-is sheet orders at v w left left-is d l (wanted-below d))
           (λ d _. point-below d)
           (λ d l. wanted-is sheet orders at d l) c h
-          ∙ ap (λ (n : ℕ). ringBy (pointsTo (routesOf sheet) (listsOf sheet orders) at) (λ d. zone (planCrossing sheet orders) d (pos at d)) n c) (sym plan-carts)
+          ∙ ap (λ (n : ℕ). ringBy (pointsTo (routesOf sheet) (listsOf sheet orders) at) (λ d. zone (planCrossing sheet orders) d (pos at d)) n c)
+          (sym plan-carts)

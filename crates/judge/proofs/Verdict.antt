@@ -67,4 +67,5 @@ module _ (sheet : Sheet) (orders : Orders) where
     stuck-lowest = runs .lowest ∙ ap (λ (T : System). lowestStuck T (run .at)) (plan-system sheet v orders w) ∙ ap (lowestStuck S) settled-end
 
     pub verdict-is : run .out ≡ isOut sheet orders
-    verdict-is = same-test _ _ (λ e. end-says X .1 (sym (runs .settled .at-end) ∙ runs .out .0 e)) (λ e. runs .out .1 (runs .settled .at-end ∙ end-says X .0 e)) ∙ tables-out v w
+    verdict-is = same-test _ _ (λ e. end-says X .1 (sym (runs .settled .at-end) ∙ runs .out .0 e))
+        (λ e. runs .out .1 (runs .settled .at-end ∙ end-says X .0 e)) ∙ tables-out v w

@@ -79,14 +79,18 @@ module _ (sheet : Sheet) (orders : Orders) (v : Valid sheet) (w : ValidOrders sh
       pub finish-told : largest (lastLeaving (sheet .steps) (sheet .passing) enter) 16 ≡ finish P G (enteringTime sheet orders)
       unfolding crossingBy finish
       finish-told =
-          finish-is (sheet .steps) (sheet .zone) (orders .ahead) (sheet .lane) (sheet .arrival) (sheet .passing) (sheet .travel) (sheet .follow) (sheet .cross) enter
+          finish-is (sheet .steps) (sheet .zone) (orders .ahead) (sheet .lane) (sheet .arrival) (sheet .passing) (sheet .travel) (sheet .follow)
+          (sheet .cross) enter
           (times-keep X G (plan-only sheet v orders w) (timesOf enter) is)
           ∙ finish-unique P G only (allMade P accepted) (timesOf enter) is-plan (enteringTime sheet orders) judged-times
 
       pub words-told : length enter ≡ 128 → ((c p : ℕ) → p < 8 → ¬ (p < steps X c) → timesOf enter c p ≡ 0) → enter ≡ timeWords sheet orders
       unfolding timeWords crossingBy
-      words-told long unused = entries-is enter 128 _ long λ x l. ap (λ (y : ℕ). getD enter y 0) (sym (div-add-mod x 8)) ∙ go x (decLt (x % 8) (steps P (x / 8)))
+      words-told long unused = entries-is enter 128 _ long λ x l. ap (λ (y : ℕ). getD enter y 0) (sym (div-add-mod x 8)) ∙ go x
+          (decLt (x % 8) (steps P (x / 8)))
         where
-          go : (x : ℕ) → Dec (x % 8 < steps P (x / 8)) → timesOf enter (x / 8) (x % 8) ≡ pick (ltb (x % 8) (steps P (x / 8))) (enteringTime sheet orders (x / 8) (x % 8)) 0
-          go x (yes h) = rw (lt-ltb (x % 8) (steps P (x / 8)) h) (times-unique P G only (allMade P accepted) (timesOf enter) (enteringTime sheet orders) is-plan judged-times (x / 8) (x % 8) h)
+          go : (x : ℕ) → Dec (x % 8 < steps P (x / 8)) → timesOf enter (x / 8) (x % 8) ≡ pick (ltb (x % 8) (steps P (x / 8)))
+              (enteringTime sheet orders (x / 8) (x % 8)) 0
+          go x (yes h) = rw (lt-ltb (x % 8) (steps P (x / 8)) h) (times-unique P G only (allMade P accepted) (timesOf enter)
+              (enteringTime sheet orders) is-plan judged-times (x / 8) (x % 8) h)
           go x (no m) = rw (le-ltb (x % 8) (steps P (x / 8)) (omega (arith, m))) (unused (x / 8) (x % 8) (mod-lt x (omega arith)) m)

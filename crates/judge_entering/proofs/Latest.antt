@@ -48,8 +48,10 @@ module _ (rule : ℕ → ℕ) where
   unfolding latest
   latest-turn members rest d time l low others =
       let first : rule d ≤ largest (of members) 16 = rw (low .member) at (largest-least (of members) 16 d l) in
-      let more : largest (of rest) 16 ≤ largest (of members) 16 = largest-most (of rest) 16 (largest (of members) 16) (λ e below. up e below (ℕ-discrete e d)) in
-      let all : largest (of members) 16 ≤ max (rule d) (largest (of rest) 16) = largest-most (of members) 16 (max (rule d) (largest (of rest) 16)) (λ e below. down e below (ℕ-discrete e d)) in
+      let more : largest (of rest) 16 ≤ largest (of members) 16 = largest-most (of rest) 16 (largest (of members) 16)
+      (λ e below. up e below (ℕ-discrete e d)) in
+      let all : largest (of members) 16 ≤ max (rule d) (largest (of rest) 16) = largest-most (of members) 16 (max (rule d) (largest (of rest) 16))
+      (λ e below. down e below (ℕ-discrete e d)) in
       omega arith
     where
       up : (e : ℕ) → e < 16 → Dec (e ≡ d) → of rest e ≤ largest (of members) 16

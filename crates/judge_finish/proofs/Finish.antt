@@ -58,12 +58,20 @@ module _ (stepTable zoneTable aheadTable lane arrival passing travel follow cros
             finish-most X G (timesOf enter) _ λ c s h.
             let l : c < 16 = step-below stepTable zoneTable aheadTable c s h in
             let place : s + (steps X c - 1 - s) ≡ steps X c - 1 = omega (arith, h) in
-            omega (arith, leaving-last X G (timesOf enter) keeps c (steps X c - 1 - s) s (omega (arith, h)), ap (leaving X G (timesOf enter) c) place, last-leaving-is c l (omega (arith, h)), largest-least (lastLeaving stepTable passing enter) 16 c l)
+            omega (
+              arith,
+              leaving-last X G (timesOf enter) keeps c (steps X c - 1 - s) s (omega (arith, h)),
+              ap (leaving X G (timesOf enter) c)
+                  place,
+              last-leaving-is c l (omega (arith, h)),
+              largest-least (lastLeaving stepTable passing enter) 16 c l,
+            )
 
         one : (c : ℕ) → c < 16 → Dec (0 < steps X c) → lastLeaving stepTable passing enter c ≤ finish X G (timesOf enter)
         one c l (yes h) = omega (arith, last-leaving-is c l h, leaving-finish X G (timesOf enter) c (steps X c - 1) (omega (arith, h)))
         one c l (no m) =
-            let none : lastLeaving stepTable passing enter c ≡ 0 = rw (eq-eqb (getD stepTable c 0) 0 (omega (arith, m, steps-is stepTable zoneTable aheadTable c l))) in
+            let none : lastLeaving stepTable passing enter c ≡ 0 = rw (eq-eqb (getD stepTable c 0) 0
+            (omega (arith, m, steps-is stepTable zoneTable aheadTable c l))) in
             omega (arith, none)
 
         early : largest (lastLeaving stepTable passing enter) 16 ≤ finish X G (timesOf enter)

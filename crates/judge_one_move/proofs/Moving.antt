@@ -65,7 +65,8 @@ module _ (X : Crossing) (G : Given) (at left leave enter : List ℕ) (run : Runn
       let k = stepIn X d z in
       let first : stepIn X d z ≤ h .step = place-first (route X d) z (h .step) (h .is-step) (h .there) in
       let here : timesOf enter d (stepIn X d z) ≡ timesOf more d (stepIn X d z) = kept d k (omega (arith, h .past)) (omega (arith, h .is-step)) in
-      let next : suc (stepIn X d z) < steps X d → timesOf enter d (suc (stepIn X d z)) ≡ timesOf more d (suc (stepIn X d z)) = λ below. kept d (suc k) (omega (arith, h .past)) below in
+      let next : suc (stepIn X d z) < steps X d → timesOf enter d (suc (stepIn X d z)) ≡ timesOf more d (suc (stepIn X d z)) = λ below. kept d
+      (suc k) (omega (arith, h .past)) below in
       omega (
         arith,
         leaving-up X G (timesOf enter) (timesOf more) d k (omega arith) (λ below. omega (arith, next below)),

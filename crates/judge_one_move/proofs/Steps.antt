@@ -79,7 +79,8 @@ module _ (sheet ahead at left : List ℕ) (standing : Standing (crossingOf sheet
 
   within : Permitted S at c → (0 < k) × (p ≤ k)
   within m =
-      let w = permitted-within (parts.steps sheet) (parts.zone sheet) ahead (standing .once) (standing .only) at c l m in (omega (arith, counted, w), omega (arith, counted, w))
+      let w = permitted-within (parts.steps sheet) (parts.zone sheet) ahead (standing .once) (standing .only) at c l m in
+      (omega (arith, counted, w), omega (arith, counted, w))
 
   -- an absent cart has no move, and past its last step a cart has one where it has not gone out
   pub absent-says : k ≡ 0 → (false ≡ true) ↔ Permitted S at c

@@ -15,7 +15,8 @@ use Rattle.judge_ring.specs.inner.Tables.{wantedIn, firstNotLeft, pointI
 abbrev unless : Bool → ℕ → List ℕ → List ℕ
 unless b d list = elim b [ true ↦ [] | false ↦ d ∷ list ]
 
-module _ (to other wanted wants : ℕ → ℕ) (n : ℕ) (same : (c : ℕ) → c < n → to c ≡ other c) (below : (c : ℕ) → c < n → to c < n) (alike : (c : ℕ) → c < n → wanted c ≡ wants c) where
+module _ (to other wanted wants : ℕ → ℕ) (n : ℕ) (same : (c : ℕ) → c < n → to c ≡ other c) (below : (c : ℕ) → c < n → to c < n)
+    (alike : (c : ℕ) → c < n → wanted c ≡ wants c) where
   follow-same : (k c : ℕ) → c < n → (follow to k c ≡ follow other k c) × (follow to k c < n)
   follow-same zero c h = (refl, h)
   follow-same (suc k) c h = let (e, l) = follow-same k c h in (same _ l ∙ ap other e, below _ l)
@@ -32,7 +33,8 @@ module _ (to other wanted wants : ℕ → ℕ) (n : ℕ) (same : (c : ℕ) → c
   unless-same true d x y w e f = (refl, refl)
   unless-same false d x y w e f = (ap (λ (l : List ℕ). d ∷ l) e, λ i. w i ∷ f i)
 
-  between-same : (first k c : ℕ) → c < n → (between to first k c ≡ between other first k c) × (map wanted (between to first k c) ≡ map wants (between other first k c))
+  between-same : (first k c : ℕ) → c < n → (between to first k c ≡ between other first k c) ×
+      (map wanted (between to first k c) ≡ map wants (between other first k c))
   unfolding between
   between-same first zero c h = (refl, refl)
   between-same first (suc k) c h =

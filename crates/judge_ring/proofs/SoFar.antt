@@ -64,7 +64,8 @@ module _ (to wanted : List ℕ) where
     repeats : (c : ℕ) → c < 16 → Repeats (byTable to) 16 c
     repeats c h = follow-repeats (byTable to) 16 c (λ i _. follow-below c h i)
 
-    module _ (c : ℕ) (inside : c < 16) (first : ℕ) (is : first ≡ ringFirst (byTable to) 16 c) (cart zone : List ℕ) (n d : ℕ) (on : SoFar first cart zone n d) where
+    module _ (c : ℕ) (inside : c < 16) (first : ℕ) (is : first ≡ ringFirst (byTable to) 16 c) (cart zone : List ℕ) (n d : ℕ)
+        (on : SoFar first cart zone n d) where
       pub so-far-few : d ≢ first → n < 16
       so-far-few other =
           let (turn, few, again) = ring-turn (byTable to) 16 c (repeats c inside) in
@@ -94,7 +95,8 @@ module _ (to wanted : List ℕ) where
       unfolding ringFrom ringRest entries
       whole back =
           let all : n ≡ suc (n - 1) = omega (arith, on .some) in
-          let again : follow (byTable to) (suc (0 + (n - 1))) first ≡ first = ap (λ (x : ℕ). follow (byTable to) x first) {x = suc (0 + (n - 1))} {y = n} (omega (arith, on .some)) ∙ sym (on .next) ∙ back in
+          let again : follow (byTable to) (suc (0 + (n - 1))) first ≡ first = ap (λ (x : ℕ). follow (byTable to) x first) {x = suc (0 + (n - 1))}
+          {y = n} (omega (arith, on .some)) ∙ sym (on .next) ∙ back in
           let rest = between-is (byTable to) first 16 0 (n - 1) (omega (arith, on .most)) again (λ x a b. on .not-yet x a (omega (arith, on .some))) in
           rw (← is, all) (ap (λ (l : List ℕ). first ∷ l) rest)
 
@@ -104,5 +106,6 @@ module _ (to wanted : List ℕ) where
           let long : n ≡ length (ringFrom (byTable to) 16 c) = sym (ap length (whole back) ∙ length-entries n 0 f) in
           let carts : cart ≡ sixteen (ringFrom (byTable to) 16 c) = on .carts ∙ sym (sixteen-filled f n) ∙ ap sixteen (sym (whole back)) in
           let zones : zone ≡ sixteen (map (byTable wanted) (ringFrom (byTable to) 16 c)) =
-          on .zones ∙ sym (sixteen-filled (λ x. byTable wanted (f x)) n) ∙ ap sixteen (sym (map-entries (byTable wanted) f n 0) ∙ ap (map (byTable wanted)) (sym (whole back))) in
+          on .zones ∙ sym (sixteen-filled (λ x. byTable wanted (f x)) n) ∙ ap sixteen
+          (sym (map-entries (byTable wanted) f n 0) ∙ ap (map (byTable wanted)) (sym (whole back))) in
           λ i. record { length = long i; cart = carts i; zone = zones i }

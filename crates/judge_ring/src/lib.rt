@@ -11,7 +11,8 @@ ghost use Rattle.moves.specs.Rings.{follow, leastFrom};
 ghost use Rattle.judge_ring.specs.Ring.{noRing, ringBy};
 ghost use Rattle.words.specs.Lists.{entries};
 ghost use Rattle.sheet_table.specs.inner.Parts.{steps, zone};
-ghost use Rattle.judge_ring.specs.inner.Tables.{NotOutIn, StuckIn, wantedIn, Wanting, pointIn, firstNotLeft, Listable, AllListable, InZones, ByTable, byTable};
+ghost use Rattle.judge_ring.specs.inner.Tables.{NotOutIn, StuckIn, wantedIn, Wanting, pointIn, firstNotLeft};
+ghost use Rattle.judge_ring.specs.inner.Tables.{Listable, AllListable, InZones, ByTable, byTable};
 
 // The carts that wait for each other in a circle, begun at the lowest, each with the zone that it wants. Unused entries are 0.
 #[repr(C)]

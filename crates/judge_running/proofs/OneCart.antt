@@ -216,7 +216,8 @@ module _ (sheet ahead : List ℕ) where
           (8 * c + k - 1) last-at
 
       pub advancing-out : (more after : List ℕ)
-          → ZoneLeft left leave more after (getD (parts.zone sheet) (8 * c + k - 1) 0) c (getD enter (8 * c + k - 1) 0 + getD (parts.passing sheet) (8 * c + k - 1) 0)
+          → ZoneLeft left leave more after (getD (parts.zone sheet) (8 * c + k - 1) 0) c
+          (getD enter (8 * c + k - 1) 0 + getD (parts.passing sheet) (8 * c + k - 1) 0)
           → Advanced X G old (set old c (k + 1)) more after enter (set order made c) c before (made + 1)
       advancing-out more after gone = record {
         onward =

@@ -75,7 +75,8 @@ module _ (X : Crossing) (G : Given) where
             stay d other (on .not-out d (sym (remain d other) ∙ e));
         none-yet = λ none d m.
             let none-here : total ≡ made = omega (arith, none, has-advanced .onward .no-fewer, on .no-fewer) in
-            let asked : has turn d ≡ true = on .none-yet (omega (arith, none, has-advanced .onward .no-fewer, on .no-fewer)) d (rw (has-advanced .onward .none-made none-here) at m) in
+            let asked : has turn d ≡ true = on .none-yet (omega (arith, none, has-advanced .onward .no-fewer, on .no-fewer)) d
+            (rw (has-advanced .onward .none-made none-here) at m) in
             elim (ℕ-discrete d c) [ yes e ↦ absurd (has-advanced .held-or-out (rw e at m)) | no n ↦ remain d n ∙ asked ];
       }
 

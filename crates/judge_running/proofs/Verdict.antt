@@ -64,8 +64,10 @@ module _ (X : Crossing) (G : Given) (at left enter order : List ℕ) (made : ℕ
 
         go : Dec (p < pos at c) → Dec (p < steps X c) → timesOf enter c p ≡ timesOf enter′ c p
         go (yes before) (yes inside) =
-            let earlier = entered-least X G only at settled-reached (timesOf enter) (timesOf enter′) (settled .enter-is) (λ d q b i. omega (arith, other-is d q b i)) c p before inside in
-            let later = entered-least X G only at settled-reached (timesOf enter′) (timesOf enter) other-is (λ d q b i. omega (arith, settled .enter-is d q b i)) c p before inside in
+            let earlier = entered-least X G only at settled-reached (timesOf enter) (timesOf enter′) (settled .enter-is)
+            (λ d q b i. omega (arith, other-is d q b i)) c p before inside in
+            let later = entered-least X G only at settled-reached (timesOf enter′) (timesOf enter) other-is
+            (λ d q b i. omega (arith, settled .enter-is d q b i)) c p before inside in
             omega arith
         go (no n) q = settled .not-entered c p few (λ e. n (e .0)) ∙ sym (other .not-entered c p few (λ e. n (omega (arith, here, e .0))))
         go (yes b) (no n) = settled .not-entered c p few (λ e. n (e .1)) ∙ sym (other .not-entered c p few (λ e. n (e .1)))

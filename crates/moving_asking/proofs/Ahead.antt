@@ -85,9 +85,11 @@ module _ (sheet : Sheet) (v : Valid sheet) (orders : Orders) (w : ValidOrders sh
         go true e = not-left d (named-visits d (ahead-named list c d e))
         go false e = refl
 
-    pub ahead-counted : countBelow 16 (λ d. has (getD (orders .ahead) (8 * c + p) 0) d && not (has left d)) ≡ aheadOf (routesOf sheet) (listsOf sheet orders) at c
+    pub ahead-counted : countBelow 16 (λ d. has (getD (orders .ahead) (8 * c + p) 0) d && not (has left d)) ≡ aheadOf (routesOf sheet)
+        (listsOf sheet orders) at c
     unfolding aheadOf crossingBy
     ahead-counted =
         rw here
         (count-same 16 _ _ (λ d _. ahead-gone d)
-        ∙ sym (count-ahead 16 (λ d. ltb (pos at d) (leftAt X d wanted)) list c (complete .once wanted) (λ d n. let (j, m, _) = named-visits d n in step-below (sheet .steps) (sheet .zone) (orders .ahead) d j m)))
+        ∙ sym (count-ahead 16 (λ d. ltb (pos at d) (leftAt X d wanted)) list c (complete .once wanted)
+        (λ d n. let (j, m, _) = named-visits d n in step-below (sheet .steps) (sheet .zone) (orders .ahead) d j m)))

@@ -28,7 +28,8 @@ module _ (s p : List ℕ) (lent : Record) (cart : ℕ) where
   unfolding ask
   refused-is n =
       let other : eqb (readPlan s p .outcome .number) 26 ≡ false = ne-eqb (readPlan s p .outcome .number) 26 (λ e. omega (arith, e, read-below s p)) in
-      sym (further-refused (notMoved (sheetOf s) (ordersRead s p) lent cart) (hasMoved lent cart) s p (requestChecks (sheetOf s) (ordersRead s p) lent cart) n ∙ rw other)
+      sym (further-refused (notMoved (sheetOf s) (ordersRead s p) lent cart) (hasMoved lent cart) s p
+      (requestChecks (sheetOf s) (ordersRead s p) lent cart) n ∙ rw other)
 
   read-is : readPlan s p .outcome .number ≡ 0 → askOf (readPlan s p .sheet) (readPlan s p .orders) lent cart ≡ ask s p lent cart
   unfolding ask

@@ -161,5 +161,6 @@ module _ (sheet : Sheet) (orders : Orders) (v : Valid sheet) (w : ValidOrders sh
                     → noMove (refused 26 0) n ≡ askOf sheet orders lent cart
                 unfolding firstFailing
                 held-is n is =
-                    let counted = is ∙ ahead-counted sheet v orders w (lent .position) cart cart-few wants _ (test .left-is reached (valid.zone sheet cart p)) in
+                    let counted = is ∙ ahead-counted sheet v orders w (lent .position) cart cart-few wants _
+                    (test .left-is reached (valid.zone sheet cart p)) in
                     rw (out, is-reached, lt-ltb cart (sheet .carts) present, not-out, permitted-is ∙ held) (ap (noMove (refused 26 0)) counted)

@@ -76,7 +76,12 @@ module _ (stepTable zoneTable aheadTable : List ℕ) (orderly : Orderly stepTabl
           let inside : j < steps X d = omega (arith, gone-few d l) in
           record { step = j; is-step = inside; there = zone-is stepTable zoneTable aheadTable d l j inside ∙ there; past = omega (arith, gone-is d l) },
       λ left.
-          says .1 (left .step, omega (arith, gone-is d l, left .past), sym (zone-is stepTable zoneTable aheadTable d l (left .step) (left .is-step)) ∙ left .there),
+          says .1 (
+            left .step,
+            omega (arith, gone-is d l, left .past),
+            sym (zone-is stepTable zoneTable aheadTable d l (left .step) (left .is-step))
+                ∙ left .there,
+          ),
     )
       where
         says : (names zoneTable (gone d) d z ≡ true) ↔ ((j : ℕ) × (j < gone d) × (getD zoneTable (8 * d + j) 0 ≡ z))

@@ -38,7 +38,8 @@ module _ (S : System) (lent : Record) where
         },
     λ st.
         and-says (isInRange S (lent .position)) _ (in-range-says S (lent .position))
-        (and-says (isClosed S (lent .position)) (eqb (lent .made) (sum (lent .position))) (closed-says S (lent .position) (st .range .sized)) (eqb-says (lent .made) (sum (lent .position))))
+        (and-says (isClosed S (lent .position)) (eqb (lent .made) (sum (lent .position))) (closed-says S (lent .position) (st .range .sized))
+        (eqb-says (lent .made) (sum (lent .position))))
         .1 (st .range, (st .closed, st .counted)),
   )
 

@@ -16,6 +16,7 @@ ghost use Rattle.judge.specs.Judging.{judge, wordsAfter};
 ghost use Rattle.plan_writer.specs.Writing.{writeAgain, roomAfter};
 ghost use Rattle.plan_zone_list.specs.Finding.{FoundIs};
 ghost use Rattle.planner.specs.Planning as planning;
+ghost use Rattle.planner.specs.declared.Rule.the-variants.{Removal, First, Better};
 ghost use Rattle.moving_asking.specs.Asking.{ask};
 
 // Reading a sheet: 1 to 14.
@@ -60,13 +61,31 @@ pub extern "C" fn oblakosh_find_list(s: &[u8], p: &[u8], zone: usize) -> ListFou
     plan_zone_list::find_list(s, p, zone)
 }
 
-// Planning a sheet: 1 to 14, then 28.
+// Planning a sheet by the removal rule: 1 to 14, then 28.
 #[no_mangle]
 pub extern "C" fn oblakosh_plan(s: &[u8], room: &mut [u8]) -> Planned
-    ensures answer { λ r. ⌜ r ≡ planning.planSheet (now (s .entry)) (length (now (room .entry))) ⌝ }
-    ensures holds { λ r. ⌜ now (room .exit) ≡ planning.roomAfter (now (s .entry)) (now (room .entry)) ⌝ }
+    ensures answer { λ r. ⌜ r ≡ planning.planSheet Removal (now (s .entry)) (length (now (room .entry))) ⌝ }
+    ensures holds { λ r. ⌜ now (room .exit) ≡ planning.roomAfter Removal (now (s .entry)) (now (room .entry)) ⌝ }
 {
     planner::plan(s, room)
+}
+
+// Planning a sheet by arrival, then cart number: 1 to 14, then 28.
+#[no_mangle]
+pub extern "C" fn oblakosh_plan_first(s: &[u8], room: &mut [u8]) -> Planned
+    ensures answer { λ r. ⌜ r ≡ planning.planSheet First (now (s .entry)) (length (now (room .entry))) ⌝ }
+    ensures holds { λ r. ⌜ now (room .exit) ≡ planning.roomAfter First (now (s .entry)) (now (room .entry)) ⌝ }
+{
+    planner::plan_first(s, room)
+}
+
+// Planning a sheet both ways, and the plan which finishes earlier, the removal plan if equal: 1 to 14, then 28.
+#[no_mangle]
+pub extern "C" fn oblakosh_plan_better(s: &[u8], room: &mut [u8]) -> Planned
+    ensures answer { λ r. ⌜ r ≡ planning.planSheet Better (now (s .entry)) (length (now (room .entry))) ⌝ }
+    ensures holds { λ r. ⌜ now (room .exit) ≡ planning.roomAfter Better (now (s .entry)) (now (room .entry)) ⌝ }
+{
+    planner::plan_better(s, room)
 }
 
 // What moving a cart would answer, with the record by value: 1 to 26.

@@ -65,7 +65,8 @@ module _ (lane : List ℕ) where
     allowed-next r l h w =
         ap (λ (x : List ℕ). set x own r) (e ∙ ap (λ (n : ℕ). entries 16 0 (allButFrom lane n)) down)
         ∙ put-entry 16 (allButFrom lane (i + 1)) (allButFrom lane i) own r l
-        (sym (set-is 16 r _ h (λ d q. w d ∙ ap (λ (x : ℕ). has x d && not (eqb d i)) (allowed-own l) ∙ ap (λ (b : Bool). b && not (eqb d i)) (has-set 16 _ d q) ∙ here d)))
+        (sym (set-is 16 r _ h (λ d q. w d ∙ ap (λ (x : ℕ). has x d && not (eqb d i)) (allowed-own l) ∙ ap (λ (b : Bool). b && not (eqb d i))
+        (has-set 16 _ d q) ∙ here d)))
         (λ x n. set-same 16 _ _ (λ d _. ap not (there x n d (ℕ-discrete d i))))
       where
         spread : (x y b : Bool) → (b ≡ true → y ≡ false) → (b ≡ false → y ≡ x) → (x && not b) ≡ y

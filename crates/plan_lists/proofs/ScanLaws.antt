@@ -43,7 +43,8 @@ module _ (p : List ℕ) (who : ℕ) (lead : List ℕ) (z k e seen : ℕ) (l : Li
   carts-refused h outcome q = rw (left-suc k e h, q)
 
   pub carts-next : e < k → (i : ℕ) (next : Cursor) → cartTaken p who seen c ≡ Got i next
-      → cartsFrom p who lead z (k - e) e seen l c go ≡ cartsFrom p who lead z (k - (e + 1)) (e + 1) (withCart seen i) (putCart l z e i seen (firstLate (l .late) (c .at) seen (getD lead i 0))) next go
+      → cartsFrom p who lead z (k - e) e seen l c go ≡ cartsFrom p who lead z (k - (e + 1)) (e + 1) (withCart seen i)
+      (putCart l z e i seen (firstLate (l .late) (c .at) seen (getD lead i 0))) next go
   unfolding cartsFrom
   carts-next h i next q = rw (left-suc k e h, q)
 

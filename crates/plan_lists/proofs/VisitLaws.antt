@@ -51,7 +51,8 @@ module _ (steps zone : List ℕ) where
     walked-step who r l h e w =
         ap (λ (x : List ℕ). set x next r) e
         ∙ put-entry 24 (named i j) (named i (j + 1)) next r l
-        (sym (set-is 16 r _ h (λ a q. w a ∙ ap (λ (x : ℕ). has x a || eqb a i) (ap (λ (x : List ℕ). getD x next 0) e ∙ at-entry 24 (named i j) next l) ∙ ap (λ (b : Bool). b || eqb a i) (has-set 16 _ a q) ∙ here a)))
+        (sym (set-is 16 r _ h (λ a q. w a ∙ ap (λ (x : ℕ). has x a || eqb a i)
+        (ap (λ (x : List ℕ). getD x next 0) e ∙ at-entry 24 (named i j) next l) ∙ ap (λ (b : Bool). b || eqb a i) (has-set 16 _ a q) ∙ here a)))
         (λ z n. set-same 16 _ _ (λ a _. there z n a (ℕ-discrete a i)))
       where
         spread : (x y b : Bool) → (b ≡ true → y ≡ true) → (b ≡ false → y ≡ x) → (x || b) ≡ y
@@ -87,4 +88,5 @@ visits-sets steps zone z = go (decLt z 24)
 
     go : Dec (z < 24) → getD (entries 24 0 rule) z 0 < 2 ^ 16
     go (yes l) = rw (at-entry 24 rule z l) (set-fits 16 _)
-    go (no m) = let past : length (entries 24 0 rule) ≤ z = omega (arith, length-entries 24 0 rule) in omega (arith, List·getD-eq-default (entries 24 0 rule) 0 past)
+    go (no m) = let past : length (entries 24 0 rule) ≤ z = omega (arith, length-entries 24 0 rule) in omega
+        (arith, List·getD-eq-default (entries 24 0 rule) 0 past)

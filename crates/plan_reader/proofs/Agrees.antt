@@ -104,12 +104,20 @@ module _ (sheet : Sheet) (valid : Valid sheet) (p : List ℕ) where
       (taking-checks then Refused answer 15 p 1 (cartAt p z e) 19 (isFree z e) Got _ λ _ t.
       let both : (visits sheet (cartOf p z e) z ≡ true) × (not (isListed p z e (cartOf p z e)) ≡ true) = and-both _ _ (sym (free-is z e l) ∙ t) in
       let below : cartOf p z e < 16 = visits-below sheet valid z (cartOf p z e) (both .0) in
-      rw (cart-next z e, seen-more p z e, listed-put p z e l (omega arith), before-put p z e l (omega arith) below (not-true _ (both .1)), late-next z e late few below)
+      rw (
+        cart-next z e,
+        seen-more p z e,
+        listed-put p z e l (omega arith),
+        before-put p z e l (omega arith) below (not-true _ (both .1)),
+        late-next
+            z e late few below,
+      )
       (carts-agree z l m n (e + 1) (nextLate answer sheet p z e late) (omega arith) (late-entry answer sheet p z e late h) (more below) go later k))
     where
       then : Taken → PlanRead
       then r =
-          whole (onTaken r λ i next. cartsFrom p (who sheet z) leads z n (e + 1) (withCart (seen p z e) i) (putCart (soFar (z + 1) z e late) z e i (seen p z e) (firstLate late (cartAt p z e) (seen p z e) (getD leads i 0))) next go)
+          whole (onTaken r λ i next. cartsFrom p (who sheet z) leads z n (e + 1) (withCart (seen p z e) i)
+          (putCart (soFar (z + 1) z e late) z e i (seen p z e) (firstLate late (cartAt p z e) (seen p z e) (getD leads i 0))) next go)
 
       more : cartOf p z e < 16 → (j : ℕ) → j < e + 1 → cartOf p z j < 16
       more below j r = elim (decLt j e) [ yes s ↦ few j s | no s ↦ let j-is : e ≡ j = omega arith in rw j-is at below ]
@@ -119,13 +127,16 @@ module _ (sheet : Sheet) (valid : Valid sheet) (p : List ℕ) where
   last = check 20 (countAt p (sheet .zones)) (eqb (countAt p (sheet .zones)) (length p)) ∷ each (sheet .zones) 0 (laneChecks sheet p)
 
   finish-agrees : (late : ℕ) → Late (sheet .zones) 0 late
-      → planOf sheet (finish p (sheet .steps) (sheet .zone) (soFar (sheet .zones) (sheet .zones) 0 late) (record { at = countAt p (sheet .zones) })) ≡ tableAnswer last
+      → planOf sheet (finish p (sheet .steps) (sheet .zone) (soFar (sheet .zones) (sheet .zones) 0 late) (record { at = countAt p (sheet .zones) }))
+      ≡ tableAnswer last
   unfolding finish each firstFailing
   finish-agrees late h =
-      pick-checks (planOf sheet) Refuses answer 20 (countAt p (sheet .zones)) (eqb (countAt p (sheet .zones)) (length p)) _ (each (sheet .zones) 0 (laneChecks sheet p))
+      pick-checks (planOf sheet) Refuses answer 20 (countAt p (sheet .zones)) (eqb (countAt p (sheet .zones)) (length p)) _
+      (each (sheet .zones) 0 (laneChecks sheet p))
       (told (eqb late 0) _ _ ∙ sym (h .says []) ∙ ap tableAnswer (append-nil (each (sheet .zones) 0 (laneChecks sheet p))))
     where
-      told : (b : Bool) (orders : Orders) (outcome : Outcome) → planOf sheet (pick b (Done orders) (Refuses outcome)) ≡ pick b (planDone sheet orders) (planRefused outcome)
+      told : (b : Bool) (orders : Orders) (outcome : Outcome) → planOf sheet (pick b (Done orders) (Refuses outcome)) ≡ pick b
+          (planDone sheet orders) (planRefused outcome)
       told true orders outcome = refl
       told false orders outcome = refl
 
@@ -141,8 +152,10 @@ module _ (sheet : Sheet) (valid : Valid sheet) (p : List ℕ) where
       (taking-checks then Refused answer 15 p 1 (countAt p z) 19 (λ k. eqb k (visitors sheet z)) Got _ λ _ t.
       let few : countOf p z ≤ 16 = omega (arith, eqb-true (countOf p z) (visitors sheet z) t, visitors-most sheet z) in
       rw (table-next 24 (countOf p) z (countOf p z) _ l refl refl, start)
-      (ap (λ (x : ℕ). whole (cartsFrom p (who sheet z) leads z (countOf p z) 0 x (soFar (z + 1) z 0 late) (record { at = cartAt p z 0 }) (listsFrom p visitorsOf leads n (z + 1)))) (seen-none p z)
-      ∙ carts-agree z l few (countOf p z) 0 late (omega arith) h (λ k m. absurd (omega arith)) (listsFrom p visitorsOf leads n (z + 1)) (each n (z + 1) (listChecks sheet p) ++ last) λ end g.
+      (ap (λ (x : ℕ). whole (cartsFrom p (who sheet z) leads z (countOf p z) 0 x (soFar (z + 1) z 0 late) (record { at = cartAt p z 0 })
+      (listsFrom p visitorsOf leads n (z + 1)))) (seen-none p z)
+      ∙ carts-agree z l few (countOf p z) 0 late (omega arith) h (λ k m. absurd (omega arith)) (listsFrom p visitorsOf leads n (z + 1))
+      (each n (z + 1) (listChecks sheet p) ++ last) λ end g.
       next end (lists-agree n (z + 1) end (omega arith) (late-zone answer sheet p z (countOf p z) end refl g)))))
     where
       then : Taken → PlanRead
@@ -150,9 +163,16 @@ module _ (sheet : Sheet) (valid : Valid sheet) (p : List ℕ) where
           whole (onTaken r λ k c. cartsFrom p (who sheet z) leads z k 0 0 (putCount (soFar z z 0 late) z k) c (listsFrom p visitorsOf leads n (z + 1)))
 
       next : (end : ℕ)
-          → whole (listsFrom p visitorsOf leads n (z + 1) (soFar (z + 1) (z + 1) 0 end) (record { at = countAt p (z + 1) })) ≡ tableAnswer (each n (z + 1) (listChecks sheet p) ++ last)
-          → whole (listsFrom p visitorsOf leads n (z + 1) (soFar (z + 1) z (countOf p z) end) (record { at = cartAt p z (countOf p z) })) ≡ tableAnswer (each n (z + 1) (listChecks sheet p) ++ last)
-      next end g = rw (count-next z, front-next 384 16 (countOf p) (cartOf p) z (countOf p z) refl, rows-next 384 16 (countOf p) (beforeRule p) z (countOf p z) refl) g
+          → whole (listsFrom p visitorsOf leads n (z + 1) (soFar (z + 1) (z + 1) 0 end) (record { at = countAt p (z + 1) })) ≡ tableAnswer
+          (each n (z + 1) (listChecks sheet p) ++ last)
+          → whole (listsFrom p visitorsOf leads n (z + 1) (soFar (z + 1) z (countOf p z) end) (record { at = cartAt p z (countOf p z) })) ≡
+          tableAnswer (each n (z + 1) (listChecks sheet p) ++ last)
+      next end g = rw (
+        count-next z,
+        front-next 384 16 (countOf p) (cartOf p) z (countOf p z) refl,
+        rows-next 384 16 (countOf p) (beforeRule p) z
+            (countOf p z) refl,
+      ) g
 
   nothing-yet : noLists ≡ soFar 0 0 0 0
   nothing-yet = rw (← table-none 24 (countOf p), ← listed-none p, ← before-none p)

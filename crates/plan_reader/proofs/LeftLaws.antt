@@ -18,6 +18,7 @@ module _ (p : List ℕ) (zones : ℕ) (steps zone lane : List ℕ) (c : Cursor) 
   lists-refused n = rw (← visits, ← leads, left-refused Broken left n .1)
 
   pub lists-read : r .outcome .number ≡ 0
-      → fromLists p zones steps zone lane c ≡ finish p steps zone (record { count = count; list = list; before = before; late = r .late }) (record { at = r .at })
+      → fromLists p zones steps zone lane c ≡ finish p steps zone (record { count = count; list = list; before = before; late = r .late })
+      (record { at = r .at })
   unfolding fromLists
   lists-read e = rw (← visits, ← leads, left-done Broken left e .1)

@@ -37,7 +37,8 @@ module _ (s p : List ℕ) (sheet : Sheet) (outcome : Outcome) (left : Left sheet
     pub tables-fit : TablesFit (sheet .zones) (sheet .steps) (sheet .zone) (sheet .lane)
     tables-fit = record { zones-most = valid .zones-most; steps-16 = valid .shaped .steps-16; routes = valid-routes _ valid; lanes = valid-lanes _ valid }
 
-    pub orders-read : (r : Outcome) (count list ahead : List ℕ) → ReadInto (sheetScan p sheet) r count list ahead → BothRead s p sheet (ordersIn count list ahead) r
+    pub orders-read : (r : Outcome) (count list ahead : List ℕ) → ReadInto (sheetScan p sheet) r count list ahead → BothRead s p sheet
+        (ordersIn count list ahead) r
     orders-read r count list ahead into =
         ⊎-elim (λ w. inl (w .0, sym accepted-scan ∙ ap (planOf sheet) (w .1))) (λ w. inr (w .0, sym accepted-scan ∙ ap (planOf sheet) (w .1))) into
 

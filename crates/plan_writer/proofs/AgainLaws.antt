@@ -40,7 +40,8 @@ lent-stored n orders room total long l =
     ∙ ap (λ (k : ℕ). written n orders ++ drop k room) beyond
 
 -- orders that a sheet's plan may have can be written
-pub orders-writable : (sheet : Sheet) (orders : Orders) (room : List ℕ) → Valid sheet → ValidOrders sheet orders → planLength sheet ≤ length room → Writable (sheet .zones) (lent (orders .count) (orders .list)) room
+pub orders-writable : (sheet : Sheet) (orders : Orders) (room : List ℕ) → Valid sheet → ValidOrders sheet orders → planLength sheet ≤ length room →
+    Writable (sheet .zones) (lent (orders .count) (orders .list)) room
 orders-writable sheet orders room v w l =
     record {
       zones = v .zones-most;
@@ -59,7 +60,8 @@ module _ (s p : List ℕ) where
   abbrev orders : Orders
   orders = readPlan s p .orders
 
-  refused-is : (room : List ℕ) → (readPlan s p .outcome .number ≡ 0 → ⊥) → (notWritten (readPlan s p .outcome) ≡ writeAgain s p (length room)) × (room ≡ roomAfter s p room)
+  refused-is : (room : List ℕ) → (readPlan s p .outcome .number ≡ 0 → ⊥) → (notWritten (readPlan s p .outcome) ≡ writeAgain s p (length room)) ×
+      (room ≡ roomAfter s p room)
   unfolding writeAgain roomAfter
   refused-is room n = (sym (further-refused _ _ s p _ n), sym (further-refused _ _ s p _ n))
 
@@ -78,11 +80,13 @@ module _ (s p : List ℕ) where
         let short : leb (planLength (sheetOf s)) (length room) ≡ false = lt-leb _ _ (rw same-sheet at l) in
         (sym (further-read _ _ s p _ e ∙ rw short), sym (further-read _ _ s p _ e ∙ rw short))
 
-    done-is : planLength sheet ≤ length room → (record { outcome = readPlan s p .outcome; length = planLength sheet } ≡ writeAgain s p (length room)) × (sets room 0 (written (sheet .zones) (lent (orders .count) (orders .list))) ≡ roomAfter s p room)
+    done-is : planLength sheet ≤ length room → (record { outcome = readPlan s p .outcome; length = planLength sheet } ≡ writeAgain s p (length room))
+        × (sets room 0 (written (sheet .zones) (lent (orders .count) (orders .list))) ≡ roomAfter s p room)
     unfolding writeAgain roomAfter firstFailing
     done-is l =
         let fits : leb (planLength (sheetOf s)) (length room) ≡ true = le-leb _ _ (rw same-sheet at l) in (
-          ap (λ (r : PlanRead). record { outcome = r .outcome; length = planLength (r .sheet) }) (readable-whole s p e) ∙ sym (further-read _ _ s p _ e ∙ rw fits),
+          ap (λ (r : PlanRead). record { outcome = r .outcome; length = planLength (r .sheet) }) (readable-whole s p e) ∙ sym
+              (further-read _ _ s p _ e ∙ rw fits),
           lent-stored (sheet .zones) orders room (planLength sheet) long l
               ∙ ap (λ (r : PlanRead). written (r .sheet .zones) (r .orders) ++ drop (planLength (r .sheet)) room) (readable-whole s p e)
               ∙ sym (further-read _ _ s p _ e ∙ rw fits),
@@ -93,7 +97,8 @@ module _ (s p : List ℕ) where
 
 -- the same of whatever reading the plan answered, and of the length as the routine works it out
 module _ (s p : List ℕ) (read : PlanRead) (is : read ≡ readPlan s p) where
-  pub again-refused : (room : List ℕ) → (read .outcome .number ≡ 0 → ⊥) → (notWritten (read .outcome) ≡ writeAgain s p (length room)) × (room ≡ roomAfter s p room)
+  pub again-refused : (room : List ℕ) → (read .outcome .number ≡ 0 → ⊥) → (notWritten (read .outcome) ≡ writeAgain s p (length room)) ×
+      (room ≡ roomAfter s p room)
   again-refused room = rw is (refused-is s p room)
 
   pub again-steps : read .outcome .number ≡ 0 → length (read .sheet .steps) ≡ 16
@@ -113,19 +118,25 @@ module _ (s p : List ℕ) (read : PlanRead) (is : read ≡ readPlan s p) where
       pub again-short : length room < total → (notWritten (refused 28 0) ≡ writeAgain s p (length room)) × (room ≡ roomAfter s p room)
       again-short l = short e (omega (arith, worked))
         where
-          short : read .outcome .number ≡ 0 → length room < planLength (read .sheet) → (notWritten (refused 28 0) ≡ writeAgain s p (length room)) × (room ≡ roomAfter s p room)
+          short : read .outcome .number ≡ 0 → length room < planLength (read .sheet) → (notWritten (refused 28 0) ≡ writeAgain s p (length room)) ×
+              (room ≡ roomAfter s p room)
           short = rw is (λ q. short-is s p q room)
 
       pub again-writable : total ≤ length room → Writable (read .sheet .zones) (lent (read .orders .count) (read .orders .list)) room
       again-writable l = writable e (omega (arith, worked))
         where
-          writable : read .outcome .number ≡ 0 → planLength (read .sheet) ≤ length room → Writable (read .sheet .zones) (lent (read .orders .count) (read .orders .list)) room
+          writable : read .outcome .number ≡ 0 → planLength (read .sheet) ≤ length room → Writable (read .sheet .zones)
+              (lent (read .orders .count) (read .orders .list)) room
           writable = rw is (λ q. orders-writable (readPlan s p .sheet) (readPlan s p .orders) room (readable-sheet s p q) (readable-valid s p q))
 
-      pub again-done : total ≤ length room → (after : List ℕ) → after ≡ sets room 0 (written (read .sheet .zones) (lent (read .orders .count) (read .orders .list))) → (record { outcome = read .outcome; length = total } ≡ writeAgain s p (length room)) × (after ≡ roomAfter s p room)
+      pub again-done : total ≤ length room → (after : List ℕ) → after ≡ sets room 0
+          (written (read .sheet .zones) (lent (read .orders .count) (read .orders .list))) →
+          (record { outcome = read .outcome; length = total } ≡ writeAgain s p (length room)) × (after ≡ roomAfter s p room)
       again-done l after stored =
           let h = done e (omega (arith, worked)) in
           (ap (λ (n : ℕ). record { outcome = read .outcome; length = n }) worked ∙ h .0, stored ∙ h .1)
         where
-          done : read .outcome .number ≡ 0 → planLength (read .sheet) ≤ length room → (record { outcome = read .outcome; length = planLength (read .sheet) } ≡ writeAgain s p (length room)) × (sets room 0 (written (read .sheet .zones) (lent (read .orders .count) (read .orders .list))) ≡ roomAfter s p room)
+          done : read .outcome .number ≡ 0 → planLength (read .sheet) ≤ length room →
+              (record { outcome = read .outcome; length = planLength (read .sheet) } ≡ writeAgain s p (length room)) ×
+              (sets room 0 (written (read .sheet .zones) (lent (read .orders .count) (read .orders .list))) ≡ roomAfter s p room)
           done = rw is (λ q. done-is s p q room)

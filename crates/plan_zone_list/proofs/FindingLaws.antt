@@ -65,7 +65,8 @@ module _ (s p : List ℕ) (zone : ℕ) where
         let unknown : ltb zone (sheetOf s .zones) ≡ false = le-ltb _ _ (rw same-zones at l) in
         record { is = sym (further-read _ _ s p _ e ∙ rw unknown); fits = omega arith }
 
-    found-is : zone < sheet .zones → (sum : ℕ) → sum ≡ sumBelow zone (count orders) → FoundIs s p zone (record { outcome = readPlan s p .outcome; start = 5 + zone + sum; length = count orders zone })
+    found-is : zone < sheet .zones → (sum : ℕ) → sum ≡ sumBelow zone (count orders) → FoundIs s p zone
+        (record { outcome = readPlan s p .outcome; start = 5 + zone + sum; length = count orders zone })
     unfolding findList firstFailing
     found-is l sum q =
         let known : ltb zone (sheetOf s .zones) ≡ true = lt-ltb _ _ (rw same-zones at l) in
@@ -74,7 +75,8 @@ module _ (s p : List ℕ) (zone : ℕ) where
         start : 5 + zone + sum ≡ cartAt p zone 0
         start = omega (arith, at l, q)
 
-        found : _≡_ {A = ListFound} (record { outcome = readPlan s p .outcome; start = 5 + zone + sum; length = count orders zone }) (record { outcome = done; start = cartAt p zone 0; length = countOf p zone })
+        found : _≡_ {A = ListFound} (record { outcome = readPlan s p .outcome; start = 5 + zone + sum; length = count orders zone })
+            (record { outcome = done; start = cartAt p zone 0; length = countOf p zone })
         found = rw (ap (λ (r : PlanRead). r .outcome) (readable-whole s p e), start, shown zone l .count-is .keeps)
 
         inside : Dec (0 < count orders zone) → 5 + zone + sum + count orders zone ≤ length p
@@ -101,7 +103,8 @@ module _ (s p : List ℕ) (zone : ℕ) where
         place k = omega (arith, at l)
 
         same : (k : ℕ) → k < count orders zone → getD (take (count orders zone) (drop start p)) k 0 ≡ listed orders zone k
-        same k h = getD-take (count orders zone) (drop start p) k 0 h ∙ getD-drop start p k 0 ∙ ap (λ (x : ℕ). getD p x 0) (place k) ∙ byte-value p (cartAt p zone k) ∙ shown zone l .cart-is k h .keeps
+        same k h = getD-take (count orders zone) (drop start p) k 0 h ∙ getD-drop start p k 0 ∙ ap (λ (x : ℕ). getD p x 0) (place k) ∙ byte-value p
+            (cartAt p zone k) ∙ shown zone l .cart-is k h .keeps
 
 -- the same of whatever reading the plan answered
 module _ (s p : List ℕ) (zone : ℕ) (read : PlanRead) (is : read ≡ readPlan s p) where
@@ -120,5 +123,6 @@ module _ (s p : List ℕ) (zone : ℕ) (read : PlanRead) (is : read ≡ readPlan
   pub list-few : read .outcome .number ≡ 0 → zone < read .sheet .zones → count (read .orders) zone ≤ 16
   list-few = rw is (λ e l. omega (arith, readable-valid s p e .list zone l .all-visitors, visitors-most (readPlan s p .sheet) zone))
 
-  pub list-found : read .outcome .number ≡ 0 → zone < read .sheet .zones → (sum : ℕ) → sum ≡ sumBelow zone (count (read .orders)) → FoundIs s p zone (record { outcome = read .outcome; start = 5 + zone + sum; length = count (read .orders) zone })
+  pub list-found : read .outcome .number ≡ 0 → zone < read .sheet .zones → (sum : ℕ) → sum ≡ sumBelow zone (count (read .orders)) → FoundIs s p zone
+      (record { outcome = read .outcome; start = 5 + zone + sum; length = count (read .orders) zone })
   list-found = rw is (found-is s p zone)

@@ -1,4 +1,4 @@
-pub mod Orders
+pub mod Rules
 pub mod NotLocked
 pub mod Answers
-pub mod Final
+pub mod Listed

@@ -1,4 +1,4 @@
--- "for every valid sheet it isn't locked": the planned orders are readable, read back the same, and the judge accepts them with the planner's finish.
+-- "for every valid sheet it isn't locked", by each rule: planned orders are readable, read back the same, and accepted with the planner's finish.
 use Prim.Native.Nat.{ℕ, _≤_}
 use mathlib.Core.Path.{_≡_, sym, ap, ap₂, subst, _∙_}
 use mathlib.Core.Bool.{true}
@@ -14,6 +14,7 @@ use Rattle.routes.specs.Crossing.{Crossing}
 use Rattle.routes.specs.Moves.{system}
 use Rattle.routes.specs.inner.Orders.{OnlyVisitors}
 use Rattle.routes.specs.Plans.{plan}
+use Rattle.routes.specs.inner.Plans.{Complete}
 use Rattle.times.specs.Times.{Given, finish}
 use Rattle.times.specs.inner.Times.{EnteringTimes}
 use Rattle.times.proofs.Finish.{finish-unique}
@@ -29,28 +30,32 @@ use Rattle.plan.specs.declared.PlanRead.{PlanRead}
 use Rattle.plan.proofs.Readable.{readable-whole}
 use Rattle.plan.proofs.Further.{further-read}
 use Rattle.plan.proofs.RoundTrip.{written-length, written-readable}
-use Rattle.crossing.specs.Plans.{givenBy, sheetGiven}
-use Rattle.crossing.specs.Plans.{routesOf, listsOf, planCrossing}
+use Rattle.crossing.specs.Plans.{givenBy, sheetGiven, routesOf, listsOf, planCrossing}
+use Rattle.crossing.proofs.Orders.{lists-are, orders-valid}
 use Rattle.judge.specs.Judging as judging
 use Rattle.judge.specs.declared.Judged.{Judged}
 use Rattle.judge.proofs.Verdict.{accepts-out}
 use Rattle.judge.proofs.Words.{judged-times}
 use Rattle.removal.specs.Pairs.{Unplanned}
 use Rattle.removal.specs.inner.Plannable.{Plannable}
-use Rattle.removal.specs.Removal.{decisions, finalOrders, passingLists, plannedLists}
+use Rattle.removal.specs.inner.Passable.{Passable}
+use Rattle.removal.specs.Removal.{passingLists}
+use Rattle.times.specs.Running.{isOut}
 use Rattle.times.proofs.Running.{out-says, allMade, entering-made}
-use Rattle.removal.proofs.Final.{final-both, final-out}
+use Rattle.removal.proofs.Pairs.{Visiting}
 use Rattle.removal.proofs.Planned.{planned-complete, planned-orders, planned-lane}
+use Rattle.planner_orders.specs.inner.Unplanned.{ordered}
 use Rattle.planner_orders.proofs.Sheets.{sheet-plannable}
-use Rattle.planner.specs.Planning.{unplanned, plannedOrders, planned}
-use Rattle.planner.proofs.Orders.{lists-are, orders-valid}
+use Rattle.planner.specs.Planning.{unplanned, finishOf, orderedBy, plannedOrders, planned}
+use Rattle.planner.specs.declared.Rule.{Rule}
+use Rattle.planner.proofs.Rules.{as-ordered, rule-passable}
 
-module _ (sheet : Sheet) (v : Valid sheet) where
+module _ (sheet : Sheet) (v : Valid sheet) (rule : Rule) where
   abbrev U : Unplanned
   U = unplanned sheet
 
   abbrev orders : Orders
-  orders = plannedOrders sheet
+  orders = plannedOrders sheet rule
 
   abbrev G : Given
   G = sheetGiven sheet
@@ -58,15 +63,24 @@ module _ (sheet : Sheet) (v : Valid sheet) where
   able : Plannable U
   able = sheet-plannable sheet v
 
+  good : Passable U (orderedBy sheet rule)
+  good = rule-passable sheet v rule
+
+  abbrev lists : List (List ℕ)
+  lists = passingLists U (orderedBy sheet rule)
+
+  full : Complete (routesOf sheet) lists
+  full = planned-complete U able (orderedBy sheet rule) good
+
   -- ---- the orders
 
   pub planned-valid : ValidOrders sheet orders
-  unfolding plannedOrders givenBy
-  planned-valid = orders-valid sheet v (plannedLists U) (planned-complete U able) (planned-lane U able)
+  unfolding givenBy
+  planned-valid = orders-valid sheet v lists full (planned-lane U able (orderedBy sheet rule) good)
 
-  planned-lists : listsOf sheet orders ≡ plannedLists U
-  unfolding plannedOrders plannedLists passingLists
-  planned-lists = lists-are sheet v (plannedLists U) (planned-complete U able) (length-entries (sheet .zones) 0 _)
+  planned-lists : listsOf sheet orders ≡ lists
+  unfolding passingLists
+  planned-lists = lists-are sheet v lists full (length-entries (sheet .zones) 0 _)
 
   -- "Plans written are read back to the same orders"
   pub planned-read : (s : List ℕ) → readSheet s ≡ sheetDone sheet → readPlan s (written (sheet .zones) orders) ≡ planDone sheet orders
@@ -75,45 +89,51 @@ module _ (sheet : Sheet) (v : Valid sheet) where
   pub planned-length : length (written (sheet .zones) orders) ≡ planLength sheet
   planned-length = written-length sheet v orders planned-valid
 
-  -- ---- the moves and times are those of the final orders
+  -- ---- the moves and times are those of the rule's orders
 
-  -- the final orders, and the plan's
+  -- the rule's orders, and the plan's
   abbrev F : Crossing
-  F = finalOrders U (decisions U)
+  F = ordered U (orderedBy sheet rule .before)
+
+  is-ordered : orderedBy sheet rule ≡ F
+  is-ordered = as-ordered U (orderedBy sheet rule) good
+
+  out : isOut F ≡ true
+  out = ap isOut (sym is-ordered) ∙ good .comes-out
+
+  same-orders : (z d c : ℕ) → Visiting U c z → plan (routesOf sheet) lists .before z d c ≡ F .before z d c
+  same-orders = planned-orders U able (orderedBy sheet rule) good
 
   abbrev P : Crossing
   P = planCrossing sheet orders
 
-  planned-crossing : P ≡ plan (routesOf sheet) (plannedLists U)
+  planned-crossing : P ≡ plan (routesOf sheet) lists
   planned-crossing = ap (plan (routesOf sheet)) planned-lists
 
-  pub planned-system : system P ≡ system F
-  unfolding finalOrders
-  planned-system =
-      ap system planned-crossing
-      ∙ system-same (routesOf sheet) (plan (routesOf sheet) (plannedLists U) .before) (F .before) (planned-orders U able)
+  planned-system : system P ≡ system F
+  planned-system = ap system planned-crossing ∙ system-same (routesOf sheet) (plan (routesOf sheet) lists .before) (F .before) same-orders
 
   -- "it isn't locked"
   pub planned-accepted : judging.isOut sheet orders ≡ true
   planned-accepted =
-      accepts-out sheet orders .1 (subst (λ (S : System). AllComeOut S (start S)) (sym planned-system) (out-says F .0 (final-out U able)))
+      accepts-out sheet orders .1 (subst (λ (S : System). AllComeOut S (start S)) (sym planned-system) (out-says F .0 out))
 
   only : OnlyVisitors F
-  unfolding finalOrders
-  only z d c b = final-both U able (decisions U) z d c b .0
+  only z d c b = good .both z d c b .0
 
-  -- the judge's times are those of the final orders
-  judged-final : EnteringTimes F G (judging.enteringTime sheet orders)
-  unfolding finalOrders
-  judged-final c s h =
-      subst (λ (X : Crossing). EnteringTimes X G (judging.enteringTime sheet orders)) planned-crossing (judged-times sheet orders v planned-valid planned-accepted) c s h
-      ∙ entering-orders (routesOf sheet) (plan (routesOf sheet) (plannedLists U) .before) (F .before) (planned-orders U able) G
+  -- the judge's times are those of the rule's orders
+  judged-times-are : EnteringTimes F G (judging.enteringTime sheet orders)
+  judged-times-are c s h =
+      subst (λ (X : Crossing). EnteringTimes X G (judging.enteringTime sheet orders)) planned-crossing
+      (judged-times sheet orders v planned-valid planned-accepted) c s h
+      ∙ entering-orders (routesOf sheet) (plan (routesOf sheet) lists .before) (F .before) same-orders G
       (judging.enteringTime sheet orders) c s h
 
-  pub planned-finish : planned sheet .finish ≡ judging.judged sheet orders .finish
-  unfolding planned finalOrders finish
+  pub planned-finish : planned sheet rule .finish ≡ judging.judged sheet orders .finish
+  unfolding planned finish
   planned-finish =
-      finish-unique F G only (allMade F (final-out U able)) _ (entering-made F G only (final-out U able)) (judging.enteringTime sheet orders) judged-final
+      ap (finishOf sheet) is-ordered
+      ∙ finish-unique F G only (allMade F out) _ (entering-made F G only out) (judging.enteringTime sheet orders) judged-times-are
 
   -- ---- the judge's answer
 

@@ -51,7 +51,8 @@ module _ (T : Tables) where
       cost-told = its-cost .value ∙ sym (told-cost U T K x a below is)
 
       taken-told : r .found ≡ true → isTakenAt (T .zone) (T .rank) x a v r ≡ isTakenOver U (chosen T new) (chosen T r)
-      taken-told f = told-taken U T (K .tabled) x a v r (told-carts U T K x a below is) (told-carts U T K (r .step) (r .first) (R .step-below) (R .is-undecided f))
+      taken-told f = told-taken U T (K .tabled) x a v r (told-carts U T K x a below is)
+          (told-carts U T K (r .step) (r .first) (R .step-below) (R .is-undecided f))
 
     pub chosen-over : isTakenAt (T .zone) (T .rank) x a v r ≡ true → Chosen T More new
     chosen-over over = record {

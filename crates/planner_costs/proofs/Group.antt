@@ -62,7 +62,8 @@ module _ (U : Unplanned) (low high : ℕ) (decided : List Order) where
     on o c =
         let carts = told-carts U T group-costable (c .step) (o .first) (c .step-below) (c .is-undecided) in
         rw (c .is-order) (record {
-          zone-below = rw (step-zone (c .step) (o .first) (c .step-below) (c .is-undecided)) at (K .zone-below _ _ (is-step (c .step) (o .first) (c .step-below) (c .is-undecided)));
+          zone-below = rw (step-zone (c .step) (o .first) (c .step-below) (c .is-undecided)) at
+              (K .zone-below _ _ (is-step (c .step) (o .first) (c .step-below) (c .is-undecided)));
           first-below = carts .0;
           second-below = carts .1;
           undecided = undecided-says U low high decided _ _ _ .0 (is-undecided (c .step) (o .first) (c .step-below) (c .is-undecided));
@@ -75,7 +76,8 @@ module _ (U : Unplanned) (low high : ℕ) (decided : List Order) where
         record {
           step = 8 * o .second + j;
           step-below = omega (arith, u .second-below, K .carts-most);
-          is-undecided = H .at-step (o .second) j (o .first) l ∙ rw there (undecided-says U low high decided (o .zone) (o .first) (o .second) .1 (u .undecided));
+          is-undecided = H .at-step (o .second) j (o .first) l ∙ rw there (undecided-says U low high decided (o .zone) (o .first) (o .second) .1
+              (u .undecided));
           is-order = same-order o _ (sym (K .zone-is (o .second) j l ∙ there)) refl (sym (row-at (o .second) j few));
         }
 
@@ -87,14 +89,18 @@ module _ (U : Unplanned) (low high : ℕ) (decided : List Order) where
       among = chosen-as T group-candidates r R
 
       -- by any times that the tables hold
-      module _ (t spare : ℕ → ℕ → ℕ) (same : SameAtSteps (U .routes) t (timesOf (T .enter))) (same-spare : SameAtSteps (U .routes) spare (timesOf (T .spare))) where
-        by-tables : largestCost U t spare (candidates U low high decided) ≡ largestCost U (timesOf (T .enter)) (timesOf (T .spare)) (candidates U low high decided)
+      module _ (t spare : ℕ → ℕ → ℕ) (same : SameAtSteps (U .routes) t (timesOf (T .enter)))
+          (same-spare : SameAtSteps (U .routes) spare (timesOf (T .spare))) where
+        by-tables : largestCost U t spare (candidates U low high decided) ≡ largestCost U (timesOf (T .enter)) (timesOf (T .spare))
+            (candidates U low high decided)
         by-tables = largest-same U _ _ _ _ same same-spare (candidates U low high decided) (λ o m. visited o (among-candidates U low high decided o .0 m))
 
         pub choice-none : r .found ≡ false → largestCost U t spare (candidates U low high decided) ≡ none
-        choice-none f = by-tables ∙ largest-none U _ _ (candidates U low high decided) .1 (λ o m. among .none-found f o (among-candidates U low high decided o .0 m))
+        choice-none f = by-tables ∙ largest-none U _ _ (candidates U low high decided) .1
+            (λ o m. among .none-found f o (among-candidates U low high decided o .0 m))
 
         pub choice-some : r .found ≡ true → largestCost U t spare (candidates U low high decided) ≡ some (chosen T r)
         choice-some f =
             by-tables
-            ∙ largest-told U _ _ (candidates U low high decided) (among-candidates U low high decided) (λ o u. (u .first-below, u .second-below)) (chosen T r) (among .largest f U group-costable)
+            ∙ largest-told U _ _ (candidates U low high decided) (among-candidates U low high decided) (λ o u. (u .first-below, u .second-below))
+            (chosen T r) (among .largest f U group-costable)

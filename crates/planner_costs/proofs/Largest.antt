@@ -79,7 +79,8 @@ module _ (U : Unplanned) (t spare : ℕ → ℕ → ℕ) where
 
       by : (y : Costed) → IsLargest U t spare (Among (p ∷ orders)) y → (over : Bool) → isTakenOver U y (with o) ≡ over
           → IsLargest U t spare (Among (o ∷ p ∷ orders)) (pick over y (with o))
-      by y Y true is = largest-stays (Among (o ∷ p ∷ orders)) o (List·Memᴰ·head refl) (Among (p ∷ orders)) either y Y (List·Memᴰ·tail (Y .candidate)) (taken-asym U y (with o) is)
+      by y Y true is = largest-stays (Among (o ∷ p ∷ orders)) o (List·Memᴰ·head refl) (Among (p ∷ orders)) either y Y (List·Memᴰ·tail (Y .candidate))
+          (taken-asym U y (with o) is)
       by y Y false is = largest-over (Among (o ∷ p ∷ orders)) o (List·Memᴰ·head refl) (Among (p ∷ orders)) either y Y is
 
   -- none is taken exactly of the empty list
@@ -99,7 +100,8 @@ module _ (U : Unplanned) (t spare : ℕ → ℕ → ℕ) where
   )
 
   -- so the answer depends on the candidates alone
-  pub largest-told : {Candidate : Order → Type 0} (orders : List Order) → ((o : Order) → Among orders o ↔ Candidate o) → ((o : Order) → Candidate o → OfCarts U o)
+  pub largest-told : {Candidate : Order → Type 0} (orders : List Order) → ((o : Order) → Among orders o ↔ Candidate o) →
+      ((o : Order) → Candidate o → OfCarts U o)
       → (x : Costed) → IsLargest U t spare Candidate x → largestCost U t spare orders ≡ some x
   largest-told orders tells of-carts x X =
       largest-some orders (λ o m. of-carts o (tells o .0 m)) x .1

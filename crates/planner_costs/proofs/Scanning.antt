@@ -107,7 +107,8 @@ module _ (T : Tables) where
           ]
 
       -- the cost is passed on and stored by its bits
-      module _ (below : x < 128) (few : a < 16) (v : ℤ) (fits : SFits w32 v) (its-cost : CostIs (clearAt T x a) (latestAt T x) v) (r : Choice) (scanned : Scanned others r) where
+      module _ (below : x < 128) (few : a < 16) (v : ℤ) (fits : SFits w32 v) (its-cost : CostIs (clearAt T x a) (latestAt T x) v) (r : Choice)
+          (scanned : Scanned others r) where
         is-here : has here a ≡ true
         is-here = scanned .0 a (low .member)
 
@@ -121,11 +122,13 @@ module _ (T : Tables) where
         scan-over over = (
           within,
           rw same
-              (chosen-over T x a below few is-here v its-cost (Seen others) (Seen rest) (inr (is-here, lowest-gone, refl)) either r (scanned .1) (rw same at over)),
+              (chosen-over T x a below few is-here v its-cost (Seen others) (Seen rest) (inr (is-here, lowest-gone, refl)) either r (scanned .1)
+              (rw same at over)),
         )
 
         pub scan-stays : isTakenAt (T .zone) (T .rank) x a (bits v) r ≡ false → Scanned rest r
         scan-stays under = (
           within,
-          chosen-stays T x a below few is-here v its-cost (Seen others) (Seen rest) (inr (is-here, lowest-gone, refl)) either r (scanned .1) all-stay (rw same at under),
+          chosen-stays T x a below few is-here v its-cost (Seen others) (Seen rest) (inr (is-here, lowest-gone, refl)) either r (scanned .1) all-stay
+              (rw same at under),
         )

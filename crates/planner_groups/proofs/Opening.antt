@@ -153,7 +153,11 @@ module _ (low high : ℕ) (ranks pairs : List ℕ) (from above within : ℕ)
               };
           unused = λ c j few past.
               let (no-ahead, no-behind, no-undecided) = old .unused c j few past in
-              let none = has-pairs .unused c j few past in
-              (joined-unused _ _ _ _ _ a-is (old .ahead-128) (8 * c + j) no-ahead none, joined-unused _ _ _ _ _ b-is (old .behind-128) (8 * c + j) no-behind none, joined-unused _ _ _ _ _ u-is (old .undecided-128) (8 * c + j) no-undecided none);
+              let none = has-pairs .unused c j few past in (
+                joined-unused _ _ _ _ _ a-is (old .ahead-128) (8 * c + j) no-ahead none,
+                joined-unused _ _ _ _ _ b-is (old .behind-128) (8 * c + j)
+                    no-behind none,
+                joined-unused _ _ _ _ _ u-is (old .undecided-128) (8 * c + j) no-undecided none,
+              );
         };
   }

@@ -1,6 +1,6 @@
 -- At the start the sets of a step are its zone's visitors, parted by lane and by number.
 use Prim.Native.Nat.{ℕ, zero, suc, _+_, _-_, _*_, _/_, _%_, _^_, _≤_, _<_}
-use mathlib.Core.Path.{_≡_, refl, sym, ap, ap₂, _∙_, subst}
+use mathlib.Core.Path.{_≡_, refl, sym, ap, _∙_, subst}
 use mathlib.Core.Bool.{Bool, true, false, not, _&&_, and-comm, and-true}
 use mathlib.Core.List.{List, []}
 use native.Mathlib.Nat.{one-mul, mod-eq-of-lt, two-pow-succ, div-add-mod}
@@ -9,22 +9,22 @@ use native.Mathlib.Omega.{arith}
 use lib.ListN.{length, getD, set, replicate, length-set, length-replicate, List·getD-eq-default}
 use lib.Seq.{getD-set-same, getD-set-other}
 use lib.Pow.{pow-lt}
-use lib.Dec.{leb, ltb, eqb}
-use borrow.Author.Tests.{lt-ltb, le-ltb, le-leb, lt-leb, eq-eqb, ne-eqb}
+use lib.Dec.{ltb, eqb}
+use borrow.Author.Tests.{lt-ltb, le-ltb, eq-eqb, ne-eqb}
 use Rattle.words.proofs.Entries.{at-entry}
 use Rattle.words.proofs.Tests.{eqb-turned}
 use Rattle.words.proofs.Tables.{row-at, column-at}
 use Rattle.sets.specs.inner.Member.{has, Without, Less}
 use Rattle.sets.specs.Counting.{setBelow}
 use Rattle.sets.proofs.Laws.{has-none, has-same}
-use Rattle.sets.proofs.Counting.{has-all, set-is}
+use Rattle.sets.proofs.Counting.{has-all}
 use Rattle.plan_lists.specs.inner.Sets.{Routes, whoVisits}
 use Rattle.moves.proofs.Positions.{zeros-pos}
 use Rattle.routes.specs.Crossing.{steps, zone}
 use Rattle.routes.proofs.Places.{named-says}
 use Rattle.crossing.specs.inner.Tables.{crossingBy}
 use Rattle.crossing.specs.Plans.{givenBy}
-use Rattle.crossing.proofs.Tables.{steps-is, zone-is}
+use Rattle.crossing.proofs.Tables.{steps-is}
 use Rattle.removal.specs.Pairs.{Unplanned, visits, sameLane, isPair}
 use Rattle.sheet_table.specs.inner.Parts as parts
 use Rattle.judge_entering.specs.inner.Lanes.{onLane, lanesOf}
@@ -35,7 +35,7 @@ use Rattle.planner_orders.proofs.Groups.{none-undecided}
 use Rattle.planner_groups.specs.inner.Pairs.{HasPairs}
 use Rattle.planner_groups.specs.inner.Starting.{visitingAt, Lent, Starts}
 use Rattle.planner_groups.proofs.Sets.{set-has}
-use Rattle.planner_groups.proofs.Visitors.{visitors-says}
+use Rattle.planner_groups.proofs.Visitors.{visiting-says}
 
 -- ---- the carts with lower numbers
 
@@ -54,30 +54,6 @@ pub lower-has : (k c : ℕ) → c < k → (d : ℕ) → has ((1 * 2 ^ c) % 2 ^ k
 lower-has k c l d =
     let full : (1 * 2 ^ c) % 2 ^ k - 1 ≡ setBelow c (λ i. true) = omega (arith, bit-is k c l, set-full c) in
     rw full (has-all c (λ i. true) d ∙ and-true (ltb d c))
-
--- ---- the carts of a lane
-
-module _ (lane : List ℕ) where
-  abbrev pub mate : ℕ → ℕ
-  mate c = setBelow 16 λ d. eqb (getD lane d 0) (getD lane c 0)
-
-  between : (v l : ℕ) → (leb l v && not (leb (l + 1) v)) ≡ eqb v l
-  between v l = go (decLt v l) (ℕ-discrete v l)
-    where
-      go : Dec (v < l) → Dec (v ≡ l) → (leb l v && not (leb (l + 1) v)) ≡ eqb v l
-      go (yes a) b = rw (lt-leb l v a, ne-eqb v l (λ e. omega arith))
-      go (no a) (yes e) = rw (le-leb l v (omega arith), lt-leb (l + 1) v (omega arith), eq-eqb v l e)
-      go (no a) (no n) = rw (le-leb l v (omega (arith, a)), le-leb (l + 1) v (omega (arith, a, n)), ne-eqb v l n)
-
-  pub mate-is : (c number from after r : ℕ) → number ≡ getD lane c 0
-      → from ≡ setBelow 16 (λ d. leb number (getD lane d 0)) → after ≡ setBelow 16 (λ d. leb (number + 1) (getD lane d 0))
-      → Less from after r → r < 2 ^ 16 → r ≡ mate c
-  mate-is c number from after r is from-is after-is less fits =
-      set-is 16 r _ fits λ d m.
-      less d
-      ∙ ap₂ (λ (a b : Bool). a && not b) (set-has 16 _ from from-is d m) (set-has 16 _ after after-is d m)
-      ∙ between (getD lane d 0) number
-      ∙ ap (eqb (getD lane d 0)) is
 
 -- ---- the visitors of a step's zone
 
@@ -152,7 +128,8 @@ module _ (sheet visitors mates : List ℕ) where
   }
     where
       go : (k : ℕ) → k < x + 1 → Dec (k ≡ x)
-          → Parted (visitingAt sheet visitors k) (getD mates (k / 8) 0) (k / 8) (getD (set ahead x a) k 0) (getD (set behind x b) k 0) (getD (set pairs x p) k 0)
+          → Parted (visitingAt sheet visitors k) (getD mates (k / 8) 0) (k / 8) (getD (set ahead x a) k 0) (getD (set behind x b) k 0)
+          (getD (set pairs x p) k 0)
       go k below (yes e) = rw (
         e,
         getD-set-same ahead x a 0 (omega (arith, so-far .ahead-128)),
@@ -212,17 +189,12 @@ module _ (sheet visitors ahead behind pairs mates : List ℕ) (sheet-routes : Ro
       here : Parted (who (8 * c + j)) (getD mates c 0) c (getD ahead (8 * c + j) 0) (getD behind (8 * c + j) 0) (getD pairs (8 * c + j) 0)
       here =
           let few : j < 8 = omega (arith, sized .ranged .steps-most c) in
-          subst (λ (i : ℕ). Parted (who (8 * c + j)) (getD mates i 0) i (getD ahead (8 * c + j) 0) (getD behind (8 * c + j) 0) (getD pairs (8 * c + j) 0)) (row-at c j few)
+          subst (λ (i : ℕ). Parted (who (8 * c + j)) (getD mates i 0) i (getD ahead (8 * c + j) 0) (getD behind (8 * c + j) 0)
+          (getD pairs (8 * c + j) 0)) (row-at c j few)
           (done .passed (8 * c + j) (omega (arith, cart)))
 
       who-says : (d : ℕ) → has (who (8 * c + j)) d ≡ visits U d z
-      unfolding crossingBy
-      who-says d =
-          let few : j < 8 = omega (arith, sized .ranged .steps-most c) in
-          let below : j < getD stepTable c 0 = omega (arith, h, steps-is stepTable zoneTable [] c cart) in
-          let there = zone-is stepTable zoneTable [] c cart j h in
-          let known = sheet-routes .known c j below in
-          rw (row-at c j few, column-at c j few, lt-ltb j (getD stepTable c 0) below, visitors-are, there) (visitors-says stepTable zoneTable (getD zoneTable (8 * c + j) 0) known d)
+      who-says = visiting-says sheet visitors sheet-routes visitors-are zones carts sized c j h
 
       own : visits U c z ≡ true
       own = named-says (getD (U .routes) c []) z .1 (j, h, refl)
@@ -242,7 +214,8 @@ module _ (sheet visitors ahead behind pairs mates : List ℕ) (sheet-routes : Ro
         behind-is = λ d.
             here .behind-are d
             ∙ ap (λ (b : Bool). b && (has (getD mates c 0) d && ltb c d)) (who-says d)
-            ∙ on-lane (visits U d z) (visits U c z) (sameLane U c d) (has (getD mates c 0) d) (ltb c d) own (λ e. mate-says d e ∙ eqb-turned (U .given .lane d) (U .given .lane c))
+            ∙ on-lane (visits U d z) (visits U c z) (sameLane U c d) (has (getD mates c 0) d) (ltb c d) own
+            (λ e. mate-says d e ∙ eqb-turned (U .given .lane d) (U .given .lane c))
             ∙ ap (λ (b : Bool). b && (sameLane U c d && ltb c d)) (and-comm (visits U d z) (visits U c z))
             ∙ sym (start-before U z c d []);
         undecided-is = λ d. has-none d ∙ sym (none-undecided U z d c 0 []);
@@ -260,7 +233,12 @@ module _ (sheet visitors ahead behind pairs mates : List ℕ) (sheet-routes : Ro
     no-step c j few past =
         elim (decLt c 16) [
           | yes l ↦
-              let none : who (8 * c + j) ≡ 0 = rw (row-at c j few, column-at c j few, le-ltb j (getD stepTable c 0) (omega (arith, past, steps-is stepTable zoneTable [] c l))) in
+              let none : who (8 * c + j) ≡ 0 = rw (
+                row-at c j few,
+                column-at c j few,
+                le-ltb j (getD stepTable c 0)
+                    (omega (arith, past, steps-is stepTable zoneTable [] c l)),
+              ) in
               parted-none _ _ _ _ _ _ none (done .passed (8 * c + j) (omega arith))
           | no m ↦ (
             List·getD-eq-default ahead 0 {n = 8 * c + j} (omega (arith, m, done .ahead-128)),

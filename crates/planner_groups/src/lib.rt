@@ -5,10 +5,9 @@ use sheet_table::Table;
 use sheet_table::wide;
 ghost use mathlib.Core.Path.{_≡_};
 ghost use lib.ListN.{getD};
-ghost use lib.Dec.{leb};
+ghost use lib.Dec.{leb, ltb};
 ghost use Rattle.sets.specs.Counting.{setBelow};
 ghost use Prim.Native.Nat.{ℕ, _<_};
-ghost use lib.Dec.{ltb};
 ghost use Rattle.sets.specs.inner.Member.{has};
 ghost use Rattle.plan_lists.specs.inner.Sets.{Routes};
 ghost use Rattle.sheet_table.specs.inner.Parts.{steps, zone};
@@ -16,7 +15,7 @@ ghost use Rattle.planner_groups.specs.inner.Starting.{visitingAt, Lent, 
 ghost use Rattle.planner_groups.specs.inner.Opening.{Joined, Opens};
 
 // The carts whose rank is `least` or more.
-fn at_least(ranks: &[u8; 16], least: usize) -> u16
+pub fn at_least(ranks: &[u8; 16], least: usize) -> u16
     ensures { λ r. ⌜ r ≡ setBelow 16 (λ c. leb least (getD (now (ranks .entry)) c 0)) ⌝ }
 {
     let mut set = 0u16;
@@ -75,7 +74,7 @@ fn lower(c: usize) -> u16
 }
 
 // The visitors of the zone of the step at x; none where no step stands there.
-fn visiting(sheet: &Table, visitors: &[u16; 24], x: usize) -> u16
+pub fn visiting(sheet: &Table, visitors: &[u16; 24], x: usize) -> u16
     requires { ⌜ (x < 128) × Routes (steps (now sheet)) (zone (now sheet)) ⌝ }
     ensures { λ r. ⌜ r ≡ visitingAt (now (sheet .entry)) (now (visitors .entry)) x ⌝ }
 {

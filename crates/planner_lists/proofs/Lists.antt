@@ -1,8 +1,8 @@
--- The lists read off the tables are the removal rule's passing lists.
+-- The lists read off a table that stands for strict orders are the passing lists of these orders.
 use Prim.Native.Nat.{ℕ, _+_, _*_, _/_, _%_, _≤_, _<_}
 use mathlib.Core.Path.{_≡_, refl, sym, ap, _∙_}
 use mathlib.Core.Logic.{⊎-elim}
-use mathlib.Core.Bool.{true, false, not-eq-not}
+use mathlib.Core.Bool.{false, not-eq-not}
 use mathlib.Core.List.{List, []}
 use native.Mathlib.Decide.{decLt}
 use native.Mathlib.Nat.{mod-lt}
@@ -15,37 +15,31 @@ use Rattle.words.specs.Lists.{pick, entries}
 use Rattle.words.proofs.Entries.{length-entries, entries-is, same-entries}
 use Rattle.sets.proofs.Counting.{count-most, count-none}
 use Rattle.routes.specs.Crossing.{Crossing, steps, zone}
-use Rattle.routes.specs.inner.Crossing.{Visits}
-use Rattle.routes.specs.inner.Orders.{StrictOrder}
 use Rattle.routes.specs.Plans.{listOf}
 use Rattle.plan_lists.specs.inner.Sets.{Routes, whoVisits}
 use Rattle.crossing.specs.inner.Tables.{crossingBy}
+use Rattle.crossing.specs.Plans.{countTable, listTable}
 use Rattle.crossing.proofs.Tables.{steps-is, zone-is}
-use Rattle.removal.specs.Pairs.{Unplanned, Order, visits}
+use Rattle.removal.specs.Pairs.{Unplanned, visits}
 use Rattle.removal.specs.inner.Plannable.{Plannable}
-use Rattle.removal.specs.Present.{present}
+use Rattle.removal.specs.inner.Passable.{Passable}
 use Rattle.removal.specs.Removal.{passingCart, visitors, passingLists}
 use Rattle.removal.proofs.Pairs.{Visiting, visits-says}
-use Rattle.removal.proofs.Present.{present-both}
 use Rattle.removal.proofs.Lists.{placeIn, list-counts, list-place, place-listed, lists-complete}
 use Rattle.planner_orders.specs.inner.Unplanned.{unplannedBy, unordered}
-use Rattle.planner_orders.specs.inner.Holds.{Holds}
+use Rattle.planner_orders.specs.inner.Stands.{StandsFor}
 use Rattle.planner_groups.proofs.Visitors.{visitors-says}
 use Rattle.planner_lists.specs.declared.PassingLists.{PassingLists}
 use Rattle.planner_lists.specs.inner.Places.{IsStep, zoneAt, placeAt, Placeable, EntryOf, PlacedTo, Listed}
-use Rattle.planner_lists.specs.inner.Lists.{countTable, listTable}
 use Rattle.planner_lists.proofs.Members.{ones-upto}
 
-module _ (stepTable zoneTable lane arrival passing travel follow cross : List ℕ) (zones carts : ℕ) (decided : List Order) (ahead behind undecided : List ℕ) where
+module _ (stepTable zoneTable lane arrival passing travel follow cross : List ℕ) (zones carts : ℕ) where
   abbrev U : Unplanned
   U = unplannedBy stepTable zoneTable lane arrival passing travel follow cross zones carts
 
-  abbrev X : Crossing
-  X = present U carts carts decided
-
-  module _ (holds : Holds U carts carts decided ahead behind undecided) (strict : (z : ℕ) → StrictOrder (λ c. Visits X c z) (X .before z)) where
+  module _ (X : Crossing) (good : Passable U X) (ahead : List ℕ) (stands : StandsFor U X ahead) where
     able : Plannable U
-    able = holds .sheet-sized .able
+    able = stands .sheet-sized .able
 
     abbrev place : ℕ → ℕ → ℕ
     place = placeIn U X
@@ -53,24 +47,22 @@ module _ (stepTable zoneTable lane arrival passing travel follow cross : List �
     abbrev lists : List (List ℕ)
     lists = passingLists U X
 
-    abbrev both : (z d c : ℕ) → X .before z d c ≡ true → Visiting U d z × Visiting U c z
-    both = present-both U carts carts decided
-
     -- ---- places
 
     -- a visitor's place is in its zone's list, and there stands the visitor
     place-few : (c z : ℕ) → Visiting U c z → place z c < visitors U z
     place-few c z v =
         let l = able .zone-below c z v in
-        let counted = list-counts U able X both strict z l in
-        let (k, h, at) = lists-complete U able X both strict .all-visitors z c v in
+        let counted = list-counts U able X (good .both) (good .strict) z l in
+        let (k, h, at) = lists-complete U able X (good .both) (good .strict) .all-visitors z c v in
         let below : k < visitors U z = omega (arith, h, counted) in
-        omega (arith, below, list-place U able X both strict z l k c below at .1)
+        omega (arith, below, list-place U able X (good .both) (good .strict) z l k c below at .1)
 
     place-apart : (c d z : ℕ) → Visiting U c z → Visiting U d z → place z c ≡ place z d → c ≡ d
     place-apart c d z v w same =
         let l = able .zone-below c z v in
-        sym (place-listed U able X both strict z l c v) ∙ ap (λ (k : ℕ). getD (listOf lists z) k 0) same ∙ place-listed U able X both strict z l d w
+        sym (place-listed U able X (good .both) (good .strict) z l c v) ∙ ap (λ (k : ℕ). getD (listOf lists z) k 0) same ∙ place-listed U able X
+        (good .both) (good .strict) z l d w
 
     -- ---- a step in the tables, and a cart that visits a zone
 
@@ -83,19 +75,19 @@ module _ (stepTable zoneTable lane arrival passing travel follow cross : List �
     step-table : (c j : ℕ) → j < steps (unordered U) c → IsStep stepTable c j × (zone (unordered U) c j ≡ zoneAt zoneTable c j)
     unfolding crossingBy
     step-table c j h =
-        let l : c < 16 = omega (arith, able .cart-below c (zone (unordered U) c j) (j, h, refl), holds .sheet-sized .carts-most) in
+        let l : c < 16 = omega (arith, able .cart-below c (zone (unordered U) c j) (j, h, refl), stands .sheet-sized .carts-most) in
         ((l, omega (arith, h, steps-is stepTable zoneTable [] c l)), zone-is stepTable zoneTable [] c l j h)
 
     -- the carts counted in a step's set are those that go before
     place-is : (c j : ℕ) → j < steps (unordered U) c → placeAt ahead c j ≡ place (zone (unordered U) c j) c
     place-is c j h =
         let z = zone (unordered U) c j in
-        ones-upto carts (getD ahead (8 * c + j) 0) (λ d. X .before z d c) (holds .at-step c j h .ahead-is) (λ d b. able .cart-below d z (both z d c b .0))
+        ones-upto carts (getD ahead (8 * c + j) 0) (λ d. X .before z d c) (λ d. stands .ahead-is c j d h) (λ d b. able .cart-below d z (good .both z d c b .0))
 
     place-small : (c j : ℕ) → j < steps (unordered U) c → placeAt ahead c j < 16
     place-small c j h =
         let z = zone (unordered U) c j in
-        omega (arith, place-is c j h, place-few c z (j, h, refl), count-most carts (λ d. visits U d z), holds .sheet-sized .carts-most)
+        omega (arith, place-is c j h, place-few c z (j, h, refl), count-most carts (λ d. visits U d z), stands .sheet-sized .carts-most)
 
     -- an entry is that of a visitor at its place
     entry-is : (c j z k : ℕ) → k < 16 → EntryOf stepTable zoneTable ahead c j (16 * z + k) → Visiting U c z × (place z c ≡ k)
@@ -143,7 +135,7 @@ module _ (stepTable zoneTable lane arrival passing travel follow cross : List �
       one-placed : (c z k : ℕ) → Visiting U c z → place z c ≡ k → getD list (16 * z + k) 0 ≡ c
       one-placed c z k v at =
           let (j, e) = visitor-entry c z v in
-          let below : 8 * c + j < 128 = omega (arith, e .is-step .0, table-step c j (e .is-step) .0, holds .sheet-sized .ranged .steps-most c) in
+          let below : 8 * c + j < 128 = omega (arith, e .is-step .0, table-step c j (e .is-step) .0, stands .sheet-sized .ranged .steps-most c) in
           placed .placed c j (16 * z + k) (rw at at e) below
 
       entry-listed : (z k : ℕ) → k < 16 → getD list (16 * z + k) 0 ≡ getD (listOf lists z) k 0
@@ -151,10 +143,10 @@ module _ (stepTable zoneTable lane arrival passing travel follow cross : List �
         where
           go : Dec (z < zones) → Dec (k < visitors U z) → getD list (16 * z + k) 0 ≡ getD (listOf lists z) k 0
           go (yes l) (yes m) =
-              let (v, at) = list-place U able X both strict z l k (getD (listOf lists z) k 0) m refl in
+              let (v, at) = list-place U able X (good .both) (good .strict) z l k (getD (listOf lists z) k 0) m refl in
               one-placed (getD (listOf lists z) k 0) z k v at
           go (yes l) (no m) =
-              let empty = List·getD-eq-default (listOf lists z) 0 {n = k} (omega (arith, m, list-counts U able X both strict z l)) in
+              let empty = List·getD-eq-default (listOf lists z) 0 {n = k} (omega (arith, m, list-counts U able X (good .both) (good .strict) z l)) in
               none-placed z k few (λ c v at. omega (arith, m, place-few c z v)) ∙ sym empty
           go (no n) _ = rw (no-list z (omega (arith, n))) (none-placed z k few (λ c v at. n (able .zone-below c z v)))
 
@@ -181,10 +173,10 @@ module _ (stepTable zoneTable lane arrival passing travel follow cross : List �
       counts-listed = same-entries 24 _ _ λ z l. visitors-counted z l ∙ go z (decLt z zones)
         where
           go : (z : ℕ) → Dec (z < zones) → visitors U z ≡ pick (ltb z zones) (length (listOf lists z)) 0
-          go z (yes m) = rw (lt-ltb z zones m) (sym (list-counts U able X both strict z m))
+          go z (yes m) = rw (lt-ltb z zones m) (sym (list-counts U able X (good .both) (good .strict) z m))
           go z (no n) = let past : zones ≤ z = omega (arith, n) in rw (le-ltb z zones past) (no-visitors z past)
 
-    -- the lists read off are those of the removal rule
+    -- the lists read off are those of the orders
     pub lists-are : (table : List ℕ) → table ≡ whoVisits stepTable zoneTable → (r : PassingLists) → Listed stepTable zoneTable ahead table r
         → (r .count ≡ countTable zones (passingLists U X)) × (r .list ≡ listTable (passingLists U X))
     lists-are table visitors-are r is = (is .count-is ∙ counts-listed table visitors-are, list-listed (r .list) (is .list-is))

@@ -1,4 +1,4 @@
-// The passing lists read off the orders present, once every pair is decided.
+// The passing lists read off a table of orders, once every pair is decided.
 use sets::carts;
 use sheet_table::Table;
 ghost use mathlib.Core.Path.{_≡_};

@@ -60,7 +60,8 @@ module _ (U : Unplanned) (low high : ℕ) (decided : List Order) where
       ∙ u .not-this
 
 module _ (U : Unplanned) (low high : ℕ) (decided : List Order) (o : Order) where
-  pub undecided-added : (z d c : ℕ) → isUndecided U low high (o ∷ decided) z d c ≡ (isUndecided U low high decided z d c && not (isOrder o z d c || isOrder o z c d))
+  pub undecided-added : (z d c : ℕ) → isUndecided U low high (o ∷ decided) z d c ≡
+      (isUndecided U low high decided z d c && not (isOrder o z d c || isOrder o z c d))
   unfolding isUndecided isDecided
   undecided-added z d c =
       undecided-by (isPair U z d c && (inGroup low high (rank U d) && inGroup low high (rank U c)))
@@ -86,7 +87,8 @@ module _ (U : Unplanned) (low high : ℕ) (decided : List Order) (o : Order) whe
         here x y = pairOrder low high (rank U d) (rank U c) (x || isDecided decided z d c) (y || isDecided decided z c d)
 
         go : (x y : Bool) → isOrder o z d c ≡ x → isOrder o z c d ≡ y → here x y ≡ (pairOf U low high decided z d c || x)
-        go true y e f = pair-inside low high (rank U d) (rank U c) true (y || isDecided decided z c d) (order-in z d c e .ranks) ∙ sym (or-true (pairOf U low high decided z d c))
+        go true y e f = pair-inside low high (rank U d) (rank U c) true (y || isDecided decided z c d) (order-in z d c e .ranks) ∙ sym
+            (or-true (pairOf U low high decided z d c))
         go false true e f =
             let (first, second) = order-in z c d f .ranks in
             pair-inside low high (rank U d) (rank U c) (isDecided decided z d c) true (second, first)

@@ -101,7 +101,8 @@ module _ (x y : ℕ) (ahead behind : List ℕ) (a b : ℕ) where
                       ∙ sym (order-added U low high decided o (candidate .undecided) z c d);
                   undecided-is = λ d.
                       y-without x y U low high decided o candidate p c j d h (set undecided x u) w u-128 w-is
-                      ∙ ap (λ (t : Bool). t && not (isOrder o z c d)) (x-without x y U low high decided o candidate p c j d h undecided u (old .undecided-128) u-is)
+                      ∙ ap (λ (t : Bool). t && not (isOrder o z c d)) (x-without x y U low high decided o candidate p c j d h undecided u
+                      (old .undecided-128) u-is)
                       ∙ less-both (has (getD undecided (8 * c + j) 0) d) (isOrder o z d c) (isOrder o z c d)
                       ∙ ap (λ (t : Bool). t && not (isOrder o z d c || isOrder o z c d)) (is .undecided-is d)
                       ∙ sym (undecided-added U low high decided o z d c);

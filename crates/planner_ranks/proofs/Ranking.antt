@@ -45,7 +45,11 @@ rank-all arrival m n c rank e is = rw e at is
 -- ---- the table
 
 pub ranked-all : (arrival : List ℕ) (m n : ℕ) (ranks : List ℕ) → m ≤ 16 → n ≡ m → ranks ≡ table 16 n (rankIn arrival m) → Ranks arrival m ranks
-ranked-all arrival m n ranks few e filled = rw (filled, e) (record { of-cart = table-used 16 m (rankIn arrival m) few; of-none = table-unused 16 m (rankIn arrival m) })
+ranked-all arrival m n ranks few e filled = rw (filled, e) (record {
+  of-cart = table-used 16 m (rankIn arrival m) few;
+  of-none = table-unused 16 m
+      (rankIn arrival m);
+})
 
 -- ---- what they mean
 

@@ -1,4 +1,4 @@
--- The tables worked out for a valid sheet tell of it, so that the group of all ranks may be solved; solved, they hold the final orders.
+-- The tables worked out for a valid sheet tell of it, so that the group of all ranks may be solved; solved, the sets ahead stand for the rule's orders.
 use Prim.Native.Nat.{ℕ, suc, _+_, _*_, _/_, _%_, _≤_, _<_, zero-le}
 use mathlib.Core.Path.{_≡_, refl}
 use mathlib.Core.List.{List, []}
@@ -18,17 +18,18 @@ use Rattle.crossing.proofs.Tables.{route-is}
 use Rattle.crossing.proofs.Sheets.{sheet-once}
 use Rattle.judge_entering.specs.inner.Times.{AtMost}
 use Rattle.removal.specs.Pairs.{Unplanned}
-use Rattle.removal.specs.Removal.{decisions}
+use Rattle.removal.specs.Removal.{decisions, finalOrders, byRemoval}
 use Rattle.removal.proofs.Starts.{none-solved}
 use Rattle.planner_ranks.specs.inner.Ranks.{Ranks}
 use Rattle.planner_ranks.proofs.Ranking.{ranks-are}
 use Rattle.planner_visiting.specs.inner.Visiting.{RoutesOnce, Places}
 use Rattle.planner_orders.specs.inner.Unplanned.{unplannedOf}
+use Rattle.planner_orders.specs.inner.Stands.{StandsFor}
 use Rattle.planner_orders.proofs.Sheets.{sheet-plannable, sheet-is-sized}
+use Rattle.planner_orders.proofs.Settled.{holds-stands}
 use Rattle.planner_groups.specs.inner.Starting.{Starts}
 use Rattle.planner_trials.specs.inner.Trying.{Told, Solved, Triable}
 use Rattle.planner_solving.specs.inner.Solving.{Solves}
-use Rattle.planner_solving.specs.inner.Final.{FinalOrders}
 
 module _ (zones carts : ℕ) (table : List ℕ) (v : Valid (sheetIn zones carts table)) where
   abbrev sheet : Sheet
@@ -78,7 +79,8 @@ module _ (zones carts : ℕ) (table : List ℕ) (v : Valid (sheetIn zones carts 
       places = places;
       steps-16 = v .shaped .steps-16;
       zone-most =
-          entries-most 23 (sheet .zone) (v .shaped .zone-128) (λ c j h. omega (arith, step-valid sheet v c j h .zone-below, v .zones-most)) (v .unused .no-zone);
+          entries-most 23 (sheet .zone) (v .shaped .zone-128) (λ c j h. omega (arith, step-valid sheet v c j h .zone-below, v .zones-most))
+          (v .unused .no-zone);
       passing-most = entries-most mostTime (sheet .passing) (v .shaped .passing-128) (λ c j h. step-valid sheet v c j h .passing-most) (v .unused .no-passing);
     }
 
@@ -94,10 +96,8 @@ module _ (zones carts : ℕ) (table : List ℕ) (v : Valid (sheetIn zones carts 
 
     pub sheet-solved : {ahead′ behind′ undecided′ : List ℕ}
         → Solves table ranks pairs visit 0 (sheet .carts) ahead behind undecided ahead′ behind′ undecided′
-        → FinalOrders sheet ahead′
-    unfolding decisions
-    sheet-solved {ahead′} {behind′} {undecided′} solves = record {
-      behind = behind′;
-      undecided = undecided′;
-      holds = solves .holds U sheet-told [] start-solved (suc (sheet .carts)) (omega arith) .holds;
-    }
+        → StandsFor U (byRemoval U) ahead′
+    unfolding decisions finalOrders
+    sheet-solved {ahead′} {behind′} {undecided′} solves =
+        holds-stands U (sheet .carts) (sheet .carts) _ ahead′ behind′ undecided′
+        (solves .holds U sheet-told [] start-solved (suc (sheet .carts)) (omega arith) .holds)

@@ -10,9 +10,10 @@ ghost use Rattle.sheet.specs.Valid.{Valid};
 ghost use Rattle.plan_lists.specs.inner.Sets.{whoVisits};
 ghost use Rattle.sheet_table.specs.inner.Parts.{steps, zone};
 ghost use Rattle.sheet_filling.specs.inner.Filled.{sheetIn};
+ghost use Rattle.removal.specs.Removal.{byRemoval};
+ghost use Rattle.planner_orders.specs.inner.Stands.{StandsBy};
 ghost use Rattle.planner_trials.specs.inner.Trying.{Triable};
 ghost use Rattle.planner_solving.specs.inner.Solving.{Solves};
-ghost use Rattle.planner_solving.specs.inner.Final.{FinalOrders};
 
 // The group of the ranks from `low` on, below `high`, is solved: where its trial fails, each half is, lower ranks first.
 // A group of one rank has no pair, so its trial does not fail: of 16 carts at most four levels have pairs.
@@ -73,7 +74,7 @@ fn solve(
 // A valid sheet's orders when the group of all ranks is solved: for each step the carts ahead. The sheet has m carts; `visitors` are the zones'.
 pub fn solve_sheet(sheet: &Table, visitors: &[u16; 24], m: usize) -> [u16; 128]
     requires { ⌜ ((n : ℕ) × Valid (sheetIn n m (now sheet))) × (now visitors ≡ whoVisits (steps (now sheet)) (zone (now sheet))) ⌝ }
-    ensures { λ r. ⌜ ((n : ℕ) → Valid (sheetIn n m (now (sheet .entry))) → FinalOrders (sheetIn n m (now (sheet .entry))) r) ⌝ }
+    ensures { λ r. ⌜ ((n : ℕ) → Valid (sheetIn n m (now (sheet .entry))) → StandsBy byRemoval (now (sheet .entry)) n m r) ⌝ }
 {
     let ranked = ranks(sheet, m);
     let visit = visit_places(sheet);

@@ -88,7 +88,8 @@ module _ (stepTable zoneTable passing behind visit enter order : List ℕ) (made
         to .holds G given c j h
         ∙ ap (λ (n : ℕ). back G n c j) {x = k} {y = 0} (omega arith)
         ∙ ap (λ (f : ℕ). workedBack (spareRule X G (timesOf enter) f) (λ _ _. 0) lanes (take made order) c j) is
-        ∙ ap (λ (s : List ℕ). workedBack (spareRule X G (timesOf enter) (finish X G (timesOf enter))) (λ _ _. 0) s (take made order) c j) (sym (behind-start stepTable zoneTable behind));
+        ∙ ap (λ (s : List ℕ). workedBack (spareRule X G (timesOf enter) (finish X G (timesOf enter))) (λ _ _. 0) s (take made order) c j)
+        (sym (behind-start stepTable zoneTable behind));
     spare-128 = to .sized;
     spare-most = to .most;
   }
@@ -141,8 +142,19 @@ module _ (stepTable zoneTable passing behind visit enter order : List ℕ) (made
     -- no cart is past out
     pub turn-few : step ≤ 8
     turn-few =
-        let past : pos (after lanes (take k order)) cart ≤ pos (system X .out) cart = rw rest-out at (after-up (after lanes (take k order)) (drop k run) cart) in
-        omega (arith, step-is, turn-some, ap (λ (l : List ℕ). pos l cart) (to .at-is), out-are X cart, ap movesOf counted, moves-most (getD stepTable cart 0), ready .tables .routed .routes .few cart)
+        let past : pos (after lanes (take k order)) cart ≤ pos (system X .out) cart = rw rest-out at
+        (after-up (after lanes (take k order)) (drop k run) cart) in
+        omega (
+          arith,
+          step-is,
+          turn-some,
+          ap (λ (l : List ℕ). pos l cart) (to .at-is),
+          out-are X cart,
+          ap movesOf counted,
+          moves-most
+              (getD stepTable cart 0),
+          ready .tables .routed .routes .few cart,
+        )
       where
         rest-out : after (after lanes (take k order)) (drop k run) ≡ system X .out
         rest-out =
@@ -222,7 +234,8 @@ module _ (stepTable zoneTable passing behind visit enter order : List ℕ) (made
             let qs : q ≡ step = omega (arith, eight) in
             ap (λ (x : ℕ). getD (set spare (8 * cart + step) value) x 0) same
             ∙ getD-set-same spare (8 * cart + step) value 0 place-below
-            ∙ rule-is stepTable zoneTable passing behind visit enter finishing (ready .tables) G given spare (later G given) (holds-later G given) cart step (omega (arith, counted))
+            ∙ rule-is stepTable zoneTable passing behind visit enter finishing (ready .tables) G given spare (later G given) (holds-later G given)
+            cart step (omega (arith, counted))
             ∙ sym (put-same (later G given) cart step (rule G (later G given) cart step))
             ∙ sym (back-put G given cart step)
             ∙ ap (λ (x : ℕ). back G i x step) (sym dc)

@@ -68,7 +68,12 @@ module _ (rule : ℕ → ℕ) where
   pub least-none : (members least : ℕ) → members ≤ 0 → leastOf (has members) rule least 16 ≡ least
   least-none members least none =
       let empty : members ≡ 0 = omega arith in
-      omega (arith, least-base (has members) rule least 16, least-bound (has members) rule least 16 least (le-refl least) (λ d _ t. absurd (false≢true (sym (has-none d) ∙ rw empty at t))))
+      omega (
+        arith,
+        least-base (has members) rule least 16,
+        least-bound (has members) rule least 16 least (le-refl least)
+            (λ d _ t. absurd (false≢true (sym (has-none d) ∙ rw empty at t))),
+      )
 
   pub least-turn : (members rest d least : ℕ) → d < 16 → Lowest members d → Rest members rest
       → leastOf (has members) rule least 16 ≡ leastOf (has rest) rule (min least (rule d)) 16
@@ -87,7 +92,8 @@ module _ (rule : ℕ → ℕ) where
       base = least-base (has rest) rule (min least (rule d)) 16
 
       down : leastOf (has members) rule least 16 ≤ leastOf (has rest) rule (min least (rule d)) 16
-      down = least-bound (has rest) rule (min least (rule d)) 16 _ (omega (arith, first, least-base (has members) rule least 16)) (λ e below t. member e below t (ℕ-discrete e d))
+      down = least-bound (has rest) rule (min least (rule d)) 16 _ (omega (arith, first, least-base (has members) rule least 16))
+          (λ e below t. member e below t (ℕ-discrete e d))
         where
           member : (e : ℕ) → e < 16 → has rest e ≡ true → Dec (e ≡ d) → leastOf (has members) rule least 16 ≤ rule e
           member e below t (yes q) = absurd (false≢true (sym gone ∙ rw q at t))

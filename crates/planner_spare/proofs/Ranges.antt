@@ -25,7 +25,8 @@ last-by-finish stepTable passing enter c j finishing h last left =
 pub least-most : (stepTable zoneTable passing behind visit enter spare : List ℕ) (finishing c j : ℕ) → AtMost finishing spare
     → leastIn stepTable zoneTable passing behind visit enter spare finishing c j ≤ finishing
 least-most stepTable zoneTable passing behind visit enter spare finishing c j most =
-    le-trans (least-base (has (getD behind (8 * c + j) 0)) (spareIn visit spare (getD zoneTable (8 * c + j) 0)) (aloneIn stepTable passing enter spare finishing c j) 16)
+    le-trans (least-base (has (getD behind (8 * c + j) 0)) (spareIn visit spare (getD zoneTable (8 * c + j) 0))
+    (aloneIn stepTable passing enter spare finishing c j) 16)
     (go (ltb (j + 1) (getD stepTable c 0)))
   where
     time : ℕ

@@ -68,4 +68,10 @@ module _ (stepTable zoneTable ahead passing behind visit : List ℕ) where
       below : (k : ℕ) → k < made → getD order k 0 < 16
       below k h =
           let whole : length (take made order) ≡ made = length-take-le made order (omega (arith, settled .order-144, settled .few)) in
-          omega (arith, run-below (system A) (start (system A)) (take made order) (settled .is-run) k (omega arith), carts-16 stepTable zoneTable ahead, getD-take made order k 0 h)
+          omega (
+            arith,
+            run-below (system A) (start (system A)) (take made order) (settled .is-run) k (omega arith),
+            carts-16 stepTable zoneTable
+                ahead,
+            getD-take made order k 0 h,
+          )

@@ -99,19 +99,23 @@ module _ (sheet ranks pairs visit ahead behind undecided enter order : List ℕ)
       ready : (finishing : ℕ) → finishing ≡ largest (lastLeaving (parts.steps sheet) (parts.passing sheet) enter) 16
           → SpareReady (parts.steps sheet) (parts.zone sheet) (parts.passing sheet) behind visit enter order (run .made) finishing (replicate 128 0)
       ready finishing is =
-          settled-ready (parts.steps sheet) (parts.zone sheet) ahead (parts.passing sheet) behind visit G (run .at) (run .left) enter order (run .made) finishing (runs .settled) out (told .routed)
+          settled-ready (parts.steps sheet) (parts.zone sheet) ahead (parts.passing sheet) behind visit G (run .at) (run .left) enter order
+          (run .made) finishing (runs .settled) out (told .routed)
           (told .places) (told .passing-most) is behind-visits
 
       finish-told : largest (lastLeaving (parts.steps sheet) (parts.passing sheet) enter) 16 ≡ finish X G (timesOf enter)
       finish-told =
           let sound = told-sound sheet ranks pairs visit ahead behind undecided U told low high decided holds in
-          finish-is (parts.steps sheet) (parts.zone sheet) ahead (parts.lane sheet) (parts.arrival sheet) (parts.passing sheet) (parts.travel sheet) (parts.follow sheet) (parts.cross sheet) enter
+          finish-is (parts.steps sheet) (parts.zone sheet) ahead (parts.lane sheet) (parts.arrival sheet) (parts.passing sheet) (parts.travel sheet)
+          (parts.follow sheet) (parts.cross sheet) enter
           (times-keep X G (sound .only) (timesOf enter) (settled-times X G (run .at) (run .left) enter order (run .made) (runs .settled) out))
 
       finish-most : largest (lastLeaving (parts.steps sheet) (parts.passing sheet) enter) 16 ≤ latestLeaving
-      finish-most = largest-most (lastLeaving (parts.steps sheet) (parts.passing sheet) enter) 16 latestLeaving λ c _. one (eqb (getD (parts.steps sheet) c 0) 0) c
+      finish-most = largest-most (lastLeaving (parts.steps sheet) (parts.passing sheet) enter) 16 latestLeaving λ c _. one
+          (eqb (getD (parts.steps sheet) c 0) 0) c
         where
-          one : (b : Bool) (c : ℕ) → pick b 0 (getD enter (lastAt (parts.steps sheet) c) 0 + getD (parts.passing sheet) (lastAt (parts.steps sheet) c) 0) ≤ latestLeaving
+          one : (b : Bool) (c : ℕ) → pick b 0 (getD enter (lastAt (parts.steps sheet) c) 0 + getD (parts.passing sheet)
+              (lastAt (parts.steps sheet) c) 0) ≤ latestLeaving
           one true c = omega arith
           one false c = omega (arith, runs .settled .enter-most (lastAt (parts.steps sheet) c), told .passing-most (lastAt (parts.steps sheet) c))
 
@@ -156,8 +160,10 @@ module _ (sheet ranks pairs visit ahead behind undecided enter order : List ℕ)
         spares-same : SameAtSteps (U .routes) (spareTime Z G (movesMade Z) time) (timesOf spare)
         unfolding givenBy
         spares-same c j h =
-            spare-time-same Z G (told .sheet-sized .able .once) (present-both U low high decided) (allMade Z all-out) run-made time (timesOf enter) times-same c j h
-            ∙ sym (spare-told (parts.steps sheet) (parts.zone sheet) behind (Z .before) (told .routed) (λ c j d h. holds .at-step c j h .behind-is d) (parts.passing sheet) enter order (run .made) finishing spare
+            spare-time-same Z G (told .sheet-sized .able .once) (present-both U low high decided) (allMade Z all-out) run-made time (timesOf enter)
+            times-same c j h
+            ∙ sym (spare-told (parts.steps sheet) (parts.zone sheet) behind (Z .before) (told .routed) (λ c j d h. holds .at-step c j h .behind-is d)
+            (parts.passing sheet) enter order (run .made) finishing spare
             spares G (λ c j. refl) finish-same c j h)
 
         turn-told : turn U low high decided ≡ onTaken U low high decided (largestCost U time (spareTime Z G (movesMade Z) time) (candidates U low high decided))
@@ -169,8 +175,10 @@ module _ (sheet ranks pairs visit ahead behind undecided enter order : List ℕ)
             let by = tabled sheet ranks pairs visit U told in
             let held = holds-undecided U low high decided ahead behind undecided holds in
             record {
-              none-left = λ e. turn-told ∙ ap (onTaken U low high decided) (choice-none U low high decided T by held choice chosen time (spareTime Z G (movesMade Z) time) times-same spares-same e);
-              taken = λ e. turn-told ∙ ap (onTaken U low high decided) (choice-some U low high decided T by held choice chosen time (spareTime Z G (movesMade Z) time) times-same spares-same e);
+              none-left = λ e. turn-told ∙ ap (onTaken U low high decided) (choice-none U low high decided T by held choice chosen time
+                  (spareTime Z G (movesMade Z) time) times-same spares-same e);
+              taken = λ e. turn-told ∙ ap (onTaken U low high decided) (choice-some U low high decided T by held choice chosen time
+                  (spareTime Z G (movesMade Z) time) times-same spares-same e);
             }
 
   -- ---- what the tables ask and tell, whatever the numbers of zones and carts are
@@ -199,12 +207,14 @@ module _ (sheet ranks pairs visit ahead behind undecided enter order : List ℕ)
       → SpareTimes (parts.steps sheet) (parts.zone sheet) (parts.passing sheet) behind enter order (run .made) finishing spare
       → Underway sheet ranks pairs visit ahead behind undecided
       → InRange (tablesOf (parts.zone sheet) (parts.cross sheet) (parts.passing sheet) ranks visit undecided enter spare)
-  trial-range finishing spare is spares = of-trial _ (λ zones carts told low high decided holds. in-range zones carts told low high decided holds finishing spare is spares)
+  trial-range finishing spare is spares = of-trial _ (λ zones carts told low high decided holds. in-range zones carts told low high decided holds
+      finishing spare is spares)
 
 module _ (sheet ranks visit behind undecided enter order : List ℕ) (run : Verdict) (finishing : ℕ) (spare : List ℕ)
     (is : finishing ≡ largest (lastLeaving (parts.steps sheet) (parts.passing sheet) enter) 16)
     (spares : SpareTimes (parts.steps sheet) (parts.zone sheet) (parts.passing sheet) behind enter order (run .made) finishing spare) where
-  pub chosen-told : (choice : Choice) → ChosenBelow (tablesOf (parts.zone sheet) (parts.cross sheet) (parts.passing sheet) ranks visit undecided enter spare) 128 choice
+  pub chosen-told : (choice : Choice) → ChosenBelow (tablesOf (parts.zone sheet) (parts.cross sheet) (parts.passing sheet) ranks visit undecided
+      enter spare) 128 choice
       → Chosen sheet ranks visit behind undecided enter order run choice
   chosen-told choice chosen = record {
     candidate = λ e. record { step-below = chosen .step-below; first-below = chosen .first-below; is-undecided = chosen .is-undecided e };

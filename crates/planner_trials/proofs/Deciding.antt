@@ -172,7 +172,8 @@ module _ (sheet visit ahead behind undecided : List ℕ) (step first : ℕ)
         runs = runs-again;
         decides = λ ranks pairs U low high decided told holds.
             let held = this-held ranks pairs U low high decided told holds in
-            let was = says ranks pairs U low high decided told holds ahead₁ behind₁ _ (opposite-held ranks pairs U low high decided told holds) enter order run runs ∙ stuck in
+            let was = says ranks pairs U low high decided told holds ahead₁ behind₁ _ (opposite-held ranks pairs U low high decided told holds) enter
+            order run runs ∙ stuck in
             let is = says ranks pairs U low high decided told holds ahead₂ behind₂ _ held enter′ order′ again runs-again in
             record {
               one-more = λ out. (taken ∷ decided, (decide-this U low high decided taken was true (is ∙ out), held));

@@ -69,5 +69,7 @@ module _ (U : Unplanned) (low high : ℕ) (decided next : List Order) (ahead beh
       less : (a b : ℕ) → a ≤ b → (a ≡ b → ⊥) → a < b
       less a b h n = omega (arith, n)
 
-      gone : (isUndecided U low high decided (p .zone) (p .first) (p .second) && not (isOrder p (p .zone) (p .first) (p .second) || isOrder p (p .zone) (p .second) (p .first))) ≡ false
-      gone = rw (eq-eqb (p .zone) (p .zone) refl, eq-eqb (p .first) (p .first) refl, eq-eqb (p .second) (p .second) refl) (and-false (isUndecided U low high decided (p .zone) (p .first) (p .second)))
+      gone : (isUndecided U low high decided (p .zone) (p .first) (p .second) && not
+          (isOrder p (p .zone) (p .first) (p .second) || isOrder p (p .zone) (p .second) (p .first))) ≡ false
+      gone = rw (eq-eqb (p .zone) (p .zone) refl, eq-eqb (p .first) (p .first) refl, eq-eqb (p .second) (p .second) refl)
+          (and-false (isUndecided U low high decided (p .zone) (p .first) (p .second)))

@@ -29,7 +29,8 @@ module _ (sheet ranks pairs visit : List ℕ) (low high : ℕ) (ahead₀ behind�
   IsTold U = Told U sheet ranks pairs visit
 
   module _ (ahead behind undecided : List ℕ) (opens : Opens low high ranks pairs ahead₀ behind₀ undecided₀ ahead behind undecided) where
-    opened : (U : Unplanned) → IsTold U → (decided : List Order) → Solved U low decided ahead₀ behind₀ undecided₀ → Holds U low high decided ahead behind undecided
+    opened : (U : Unplanned) → IsTold U → (decided : List Order) → Solved U low decided ahead₀ behind₀ undecided₀ → Holds U low high decided ahead
+        behind undecided
     opened U told decided solved =
         opens .holds U decided (told .has-ranks) (told .has-pairs) (triable .rising) (solved-below U low decided (solved .below)) (solved .holds)
 
@@ -67,7 +68,8 @@ module _ (sheet ranks pairs visit : List ℕ) (low high : ℕ) (ahead₀ behind�
   module _ (U : Unplanned) (told : IsTold U) (decided : List Order) (solved : Solved U low decided ahead₀ behind₀ undecided₀)
       (all : List Order) (is : trial U low high decided ≡ some all) where
     tried : Tried U (told .sheet-sized .able) low high decided all
-    tried = trial-tried U (told .sheet-sized .able) low high decided (trial-starts U (told .sheet-sized .able) low high decided (triable .rising) (solved .below)) all is
+    tried = trial-tried U (told .sheet-sized .able) low high decided (trial-starts U (told .sheet-sized .able) low high decided (triable .rising)
+        (solved .below)) all is
 
     closed : (ahead behind undecided : List ℕ) → Holds U low high all ahead behind undecided → Solved U high all ahead behind undecided
     closed ahead behind undecided holds = record {

@@ -114,7 +114,8 @@ module _ (sheet ranks visit ahead₀ behind₀ undecided₀ : List ℕ) where
               where
                 go : (b : Bool) → next .out ≡ b → pick b (suc (sum undecided′)) 0 < suc (sum undecided)
                 go true more-out =
-                    let (all, (is, held)) = by .decides ranks (on .pairs) (now .U) (now .low) (now .high) (now .decided) (now .told) (now .holds) .one-more more-out in
+                    let (all, (is, held)) = by .decides ranks (on .pairs) (now .U) (now .low) (now .high) (now .decided) (now .told)
+                    (now .holds) .one-more more-out in
                     let turned = tells (on .pairs) (now .U) (now .low) (now .high) (now .decided) (now .told) (now .holds) .taken found ∙ is in
                     omega (
                       arith,

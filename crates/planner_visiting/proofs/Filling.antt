@@ -122,5 +122,6 @@ module _ (steps zone : List ℕ) where
             where
               twice : (c ≡ cart) × (getD zone (8 * c + j) 0 ≡ getD zone x 0) → 8 * c + j ≡ x
               twice (e, q) =
-                  let this : j ≡ step = same-step routed c j step k h (omega (arith, ap (λ (d : ℕ). getD steps d 0) e)) (q ∙ ap (λ (y : ℕ). getD zone y 0) (sym split ∙ ap (λ (d : ℕ). 8 * d + step) (sym e))) in
+                  let this : j ≡ step = same-step routed c j step k h (omega (arith, ap (λ (d : ℕ). getD steps d 0) e))
+                  (q ∙ ap (λ (y : ℕ). getD zone y 0) (sym split ∙ ap (λ (d : ℕ). 8 * d + step) (sym e))) in
                   omega (arith, split)

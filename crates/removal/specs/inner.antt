@@ -1,2 +1,3 @@
 pub mod Plannable
+pub mod Passable
 pub mod Solved

@@ -31,8 +31,10 @@ module _ (n m : ℕ) (t : List ℕ) where
 
   pub cart-put : (c a b d : ℕ) → c < 16 → sheetIn n m (set (set (set t (48 + c) a) (64 + c) b) (80 + c) d) ≡ withCart (sheetIn n m t) c a b d
   cart-put c a b d h =
-      as-sheet _ _ (next (set (set t (48 + c) a) (64 + c) b) _ 4 c d (lit< tt) h (next (set t (48 + c) a) _ 3 c b (lit< tt) h (next t _ 2 c a (lit< tt) h (parts-split t))))
+      as-sheet _ _ (next (set (set t (48 + c) a) (64 + c) b) _ 4 c d (lit< tt) h
+      (next (set t (48 + c) a) _ 3 c b (lit< tt) h (next t _ 2 c a (lit< tt) h (parts-split t))))
 
   pub step-put : (x a b d : ℕ) → x < 128 → sheetIn n m (set (set (set t (96 + x) a) (224 + x) b) (352 + x) d) ≡ withStep (sheetIn n m t) x a b d
   step-put x a b d h =
-      as-sheet _ _ (next (set (set t (96 + x) a) (224 + x) b) _ 7 x d (lit< tt) h (next (set t (96 + x) a) _ 6 x b (lit< tt) h (next t _ 5 x a (lit< tt) h (parts-split t))))
+      as-sheet _ _ (next (set (set t (96 + x) a) (224 + x) b) _ 7 x d (lit< tt) h
+      (next (set t (96 + x) a) _ 6 x b (lit< tt) h (next t _ 5 x a (lit< tt) h (parts-split t))))

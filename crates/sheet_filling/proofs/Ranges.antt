@@ -65,17 +65,20 @@ module _ (sheet : Sheet) (v : Valid sheet) where
   pub zone-entries : Entries 128 255 (sheet .zone)
   zone-entries = record {
     count = v .shaped .zone-128;
-    range = by-step (λ x. getD (sheet .zone) x 0 ≤ 255) λ i j m. elim (decLt j (steps sheet i)) [ yes l ↦ omega (arith, step-valid i j l .zone-below, v .zones-most) | no n ↦ omega (arith, v .unused .no-zone i j m (omega (arith, n))) ];
+    range = by-step (λ x. getD (sheet .zone) x 0 ≤ 255) λ i j m. elim (decLt j (steps sheet i))
+        [ yes l ↦ omega (arith, step-valid i j l .zone-below, v .zones-most) | no n ↦ omega (arith, v .unused .no-zone i j m (omega (arith, n))) ];
   }
 
   pub passing-entries : Entries 128 mostTime (sheet .passing)
   passing-entries = record {
     count = v .shaped .passing-128;
-    range = by-step (λ x. getD (sheet .passing) x 0 ≤ mostTime) λ i j m. elim (decLt j (steps sheet i)) [ yes l ↦ step-valid i j l .passing-most | no n ↦ omega (arith, v .unused .no-passing i j m (omega (arith, n))) ];
+    range = by-step (λ x. getD (sheet .passing) x 0 ≤ mostTime) λ i j m. elim (decLt j (steps sheet i))
+        [ yes l ↦ step-valid i j l .passing-most | no n ↦ omega (arith, v .unused .no-passing i j m (omega (arith, n))) ];
   }
 
   pub travel-entries : Entries 128 mostTime (sheet .travel)
   travel-entries = record {
     count = v .shaped .travel-128;
-    range = by-step (λ x. getD (sheet .travel) x 0 ≤ mostTime) λ i j m. elim (decLt j (steps sheet i)) [ yes l ↦ step-valid i j l .travel-most | no n ↦ omega (arith, v .unused .no-travel i j m (omega (arith, n))) ];
+    range = by-step (λ x. getD (sheet .travel) x 0 ≤ mostTime) λ i j m. elim (decLt j (steps sheet i))
+        [ yes l ↦ step-valid i j l .travel-most | no n ↦ omega (arith, v .unused .no-travel i j m (omega (arith, n))) ];
   }

@@ -33,6 +33,8 @@ module _ (s : List ℕ) where
   unfolding scan
   begins n c t e q = sym (scan-agrees s) ∙ rw (e, q) (ap (λ (sh : Sheet). zonesFrom s n 0 sh c) (blank-is n))
 
-  pub zones-next : (n z : ℕ) (sh put : Sheet) (c c2 c3 : Cursor) (follow cross : ℕ) → z < n → fieldAt s 2 (c .at) ≡ Value follow c2 → follow ≤ mostTime → fieldAt s 2 (c2 .at) ≡ Value cross c3 → cross ≤ mostTime → put ≡ withGaps sh z follow cross → zonesFrom s (n - z) z sh c ≡ zonesFrom s (n - (z + 1)) (z + 1) put c3
+  pub zones-next : (n z : ℕ) (sh put : Sheet) (c c2 c3 : Cursor) (follow cross : ℕ) → z < n → fieldAt s 2 (c .at) ≡ Value follow c2 → follow ≤
+      mostTime → fieldAt s 2 (c2 .at) ≡ Value cross c3 → cross ≤ mostTime → put ≡ withGaps sh z follow cross → zonesFrom s (n - z) z sh c ≡ zonesFrom
+      s (n - (z + 1)) (z + 1) put c3
   unfolding zonesFrom taking
   zones-next n z sh put c c2 c3 follow cross l e h e2 h2 q = rw (left-suc n z l, e, le-leb _ _ h, e2, le-leb _ _ h2, q)

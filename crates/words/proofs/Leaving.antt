@@ -19,5 +19,6 @@ module _ {R : Type 0} (refuse : Outcome → R) {whole rest : R} {outcome : Outco
   left-then e later = rw (left-done e .1) later
 
 -- the whole, where it is known to be another
-pub left-whole : {R : Type 0} (refuse : Outcome → R) {whole same rest : R} {outcome : Outcome} → whole ≡ same → Left refuse same rest outcome → Left refuse whole rest outcome
+pub left-whole : {R : Type 0} (refuse : Outcome → R) {whole same rest : R} {outcome : Outcome} → whole ≡ same → Left refuse same rest outcome → Left
+    refuse whole rest outcome
 left-whole refuse e left = rw e left

@@ -269,10 +269,28 @@ pub struct Planned {
 /// to 14, or 28 if the room is shorter than the plan. Bytes beyond the plan are untouched.
 #[cfg(feature = "controller")]
 pub fn plan(sheet: &[u8], room: &mut [u8]) -> Result<Planned, Refusal> {
+    planned_by(linked::oblakosh_plan, sheet, room)
+}
+
+/// The same by the plain rule: every shared zone goes by arrival, then cart number. Such a plan is never locked.
+#[cfg(feature = "controller")]
+pub fn plan_first(sheet: &[u8], room: &mut [u8]) -> Result<Planned, Refusal> {
+    planned_by(linked::oblakosh_plan_first, sheet, room)
+}
+
+/// The one of these two plans that finishes earlier, the removal rule's if both finish at once.
+#[cfg(feature = "controller")]
+pub fn plan_better(sheet: &[u8], room: &mut [u8]) -> Result<Planned, Refusal> {
+    planned_by(linked::oblakosh_plan_better, sheet, room)
+}
+
+#[cfg(feature = "controller")]
+type Planner = unsafe extern "C" fn(*const u8, usize, *mut u8, usize) -> linked::Planned;
+
+#[cfg(feature = "controller")]
+fn planned_by(planner: Planner, sheet: &[u8], room: &mut [u8]) -> Result<Planned, Refusal> {
     // SAFETY: a slice is memory of its length that may be read; `room` may be written too, and overlaps nothing else.
-    let planned = unsafe {
-        linked::oblakosh_plan(sheet.as_ptr(), sheet.len(), room.as_mut_ptr(), room.len())
-    };
+    let planned = unsafe { planner(sheet.as_ptr(), sheet.len(), room.as_mut_ptr(), room.len()) };
     let made = Planned {
         length: planned.length,
         finish: planned.finish,

@@ -98,6 +98,18 @@ extern "C" {
         room: *mut u8,
         room_length: usize,
     ) -> Planned;
+    pub fn oblakosh_plan_first(
+        s: *const u8,
+        s_length: usize,
+        room: *mut u8,
+        room_length: usize,
+    ) -> Planned;
+    pub fn oblakosh_plan_better(
+        s: *const u8,
+        s_length: usize,
+        room: *mut u8,
+        room_length: usize,
+    ) -> Planned;
     pub fn oblakosh_find_list(
         s: *const u8,
         s_length: usize,

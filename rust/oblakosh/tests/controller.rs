@@ -1,7 +1,7 @@
 //! The controller's operations through the wrapper, and what lent room and record hold after an answer and after a refusal.
 use oblakosh::{
-    ask, judge, move_cart, passing_list, plan, write_again, Moved, NotMoved, Planned, Record,
-    Refusal, CARTS,
+    ask, judge, move_cart, passing_list, plan, plan_better, plan_first, write_again, Moved,
+    NotMoved, Planned, Record, Refusal, CARTS,
 };
 
 const S: &[u8] = include_bytes!("../../../examples/S.sheet");
@@ -35,29 +35,36 @@ fn a_refusal_leaves_the_room_as_it_was() {
     }
 }
 
+type Planner = fn(&[u8], &mut [u8]) -> Result<Planned, Refusal>;
+const PLANNERS: [Planner; 3] = [plan, plan_first, plan_better];
+
 #[test]
 fn a_sheet_is_planned_and_the_plan_accepted() {
-    let mut room = [0xA5; 12];
     let made = Planned {
         length: 10,
         finish: 4500,
     };
-    assert_eq!(plan(S, &mut room), Ok(made));
-    assert_eq!((&room[..10], &room[10..]), (A, &[0xA5; 2][..]));
-    assert_eq!(plan(S, &mut room[..10]), Ok(made));
-    assert_eq!(judge(S, &room[..10], &mut [0; 128]).unwrap().finish, 4500);
+    for planner in PLANNERS {
+        let mut room = [0xA5; 12];
+        assert_eq!(planner(S, &mut room), Ok(made));
+        assert_eq!((&room[..10], &room[10..]), (A, &[0xA5; 2][..]));
+        assert_eq!(planner(S, &mut room[..10]), Ok(made));
+        assert_eq!(judge(S, &room[..10], &mut [0; 128]).unwrap().finish, 4500);
+    }
 }
 
 #[test]
 fn a_sheet_that_is_refused_has_no_plan() {
     for (sheet, length, number, place) in [(&[][..], 12, 1, 0), (&[2][..], 12, 2, 0), (S, 9, 28, 0)]
     {
-        let mut room = [0xA5; 12];
-        assert_eq!(
-            plan(sheet, &mut room[..length]),
-            Err(Refusal { number, place })
-        );
-        assert_eq!(room, [0xA5; 12]);
+        for planner in PLANNERS {
+            let mut room = [0xA5; 12];
+            assert_eq!(
+                planner(sheet, &mut room[..length]),
+                Err(Refusal { number, place })
+            );
+            assert_eq!(room, [0xA5; 12]);
+        }
     }
 }
 

@@ -16,16 +16,26 @@ not-judged-requires : tie.Need-not-judged-requires
 not-judged-requires c κs = search needs
 
 returns : tie.Need-returns
-returns c = let h = judge-refused _ _ _ _ _ (c .before .before .before .before .before .read-tables .ensures) _ (c .before .before .if1 .taken) in (c .not-judged .ensures ∙ rw (c .before .no-ring .ensures) (h .0), h .1)
+returns c = let h = judge-refused _ _ _ _ _ (c .before .before .before .before .before .read-tables .ensures) _ (c .before .before .if1 .taken) in
+    (c .not-judged .ensures ∙ rw (c .before .no-ring .ensures) (h .0), h .1)
 
 judge-orders-requires : tie.Need-judge-orders-requires
-judge-orders-requires c κs = record { zones = _; carts = _; valid = valid-sheet _ _ _ _ _ (c .before .before .before .before .before .before .before .before .read-tables .ensures) (c .before .before .before .before .before .if1 .left); valid-orders = valid-orders _ _ _ _ _ (c .before .before .before .before .before .before .before .before .read-tables .ensures) (c .before .before .before .before .before .if1 .left) }
+judge-orders-requires c κs = record {
+  zones = _;
+  carts = _;
+  valid = valid-sheet _ _ _ _ _
+      (c .before .before .before .before .before .before .before .before .read-tables .ensures) (c .before .before .before .before .before .if1 .left);
+  valid-orders = valid-orders _ _ _ _ _ (c .before .before .before .before .before .before .before .before .read-tables .ensures)
+      (c .before .before .before .before .before .if1 .left);
+}
 
 same-length : tie.Need-same-length
 same-length c = search needs
 
 returns-2 : tie.Need-returns-2
-returns-2 c = judge-read _ _ _ _ _ (c .before .before .before .before .before .before .before .before .before .before .before .read-tables .ensures) _ (c .before .before .before .before .before .before .before .before .if1 .left) _ _ (c .before .before .judge-orders .ensures _ _ (valid-sheet _ _ _ _ _ (c .before .before .before .before .before .before .before .before .before .before .before .read-tables .ensures) (c .before .before .before .before .before .before .before .before .if1 .left)) (valid-orders _ _ _ _ _ (c .before .before .before .before .before .before .before .before .before .before .before .read-tables .ensures) (c .before .before .before .before .before .before .before .before .if1 .left)))
+returns-2 c = judge-read _ _ _ _ _ (c .before .before .before .before .before .before .before .before .before .before .before .read-tables .ensures)
+    _ (c .before .before .before .before .before .before .before .before .if1 .left) _ _
+    (c .before .before .judge-orders .ensures _ _ (valid-sheet _ _ _ _ _ (c .before .before .before .before .before .before .before .before .before .before .before .read-tables .ensures) (c .before .before .before .before .before .before .before .before .if1 .left)) (valid-orders _ _ _ _ _ (c .before .before .before .before .before .before .before .before .before .before .before .read-tables .ensures) (c .before .before .before .before .before .before .before .before .if1 .left)))
 
 pub judge-spec : {M : Type 1} → statement M
 judge-spec =

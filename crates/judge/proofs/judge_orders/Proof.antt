@@ -15,7 +15,12 @@ use Rattle.judge.proofs.judge_orders.Statement.{statement}
 use Rattle.judge.proofs.judge_orders.Tie as tie
 
 verdict-of-requires : tie.Need-verdict-of-requires
-verdict-of-requires c κs = record { sound = plan-sound (sheetIn _ _ (c .before .before .before .args .sheet .now)) (c .before .before .before .pre .valid) (ordersIn (c .before .before .before .args .count .now) (c .before .before .before .args .list .now) (c .before .before .before .args .ahead .now)) (c .before .before .before .pre .valid-orders); order-144 = refl }
+verdict-of-requires c κs = record {
+  sound = plan-sound (sheetIn _ _ (c .before .before .before .args .sheet .now))
+      (c .before .before .before .pre .valid) (ordersIn (c .before .before .before .args .count .now) (c .before .before .before .args .list .now)
+      (c .before .before .before .args .ahead .now)) (c .before .before .before .pre .valid-orders);
+  order-144 = refl;
+}
 
 ring-of-requires : tie.Need-ring-of-requires
 ring-of-requires c κs = (sheet-wanting (sheetIn _ _ (c .before .before .before .before .before .before .before .before .before .before .args .sheet .now)) (c .before .before .before .before .before .before .before .before .before .before .pre .valid) _, orders-listable (sheetIn _ _ (c .before .before .before .before .before .before .before .before .before .before .args .sheet .now)) (c .before .before .before .before .before .before .before .before .before .before .pre .valid) (c .before .before .before .before .before .before .verdict-of .result .at) (ordersIn (c .before .before .before .before .before .before .before .before .before .before .args .count .now) (c .before .before .before .before .before .before .before .before .before .before .args .list .now) (c .before .before .before .before .before .before .before .before .before .before .args .ahead .now)) (c .before .before .before .before .before .before .before .before .before .before .pre .valid-orders), c .before .before .before .before .before .before .verdict-of .ensures .one-stuck (not-true _ (c .before .before .before .before .if1 .taken)))

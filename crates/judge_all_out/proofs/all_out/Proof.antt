@@ -19,7 +19,12 @@ present-requires : tie.Need-present-requires Inv-loop μ-loop
 present-requires c κs = search needs
 
 loop-holds : tie.Need-loop-holds Inv-loop μ-loop
-loop-holds c = record { have-moved = moved-none _ _ 16 24 (c .before .pre) (carts-16 _ _ _) refl; inside-is = rw (c .present .ensures) (present-inside _ _ _); none-left = λ e. absurd (true≢false e) }
+loop-holds c = record {
+  have-moved = moved-none _ _ 16 24 (c .before .pre) (carts-16 _ _ _) refl;
+  inside-is = rw (c .present .ensures)
+      (present-inside _ _ _);
+  none-left = λ e. absurd (true≢false e);
+}
 
 turn-of-requires : tie.Need-turn-of-requires Inv-loop μ-loop
 turn-of-requires c κs = (c .before .before .before .loop .inv .have-moved, c .before .before .before .loop .inv .inside-is)

@@ -33,13 +33,24 @@ element-copy-out-may-enter : tie.Need-element-copy-out-may-enter Inv-loop μ-loo
 element-copy-out-may-enter c = search needs
 
 add-may-enter : tie.Need-add-may-enter Inv-loop μ-loop
-add-may-enter c = omega (arith, stands-asked _ _ _ _ (c .before .before .before .before .before .loop .inv .have-moved) _ (c .before .before .before .lowest .ensures .0) (turning-wants _ _ _ _ _ _ _ (c .before .before .before .before .before .loop .inv) _ _ (c .before .before .before .lowest .ensures .1) (c .before .before .rest .ensures)) .0)
+add-may-enter c = omega (
+  arith,
+  stands-asked _ _ _ _ (c .before .before .before .before .before .loop .inv .have-moved) _
+      (c .before .before .before .lowest .ensures .0) (turning-wants _ _ _ _ _ _ _ (c .before .before .before .before .before .loop .inv) _ _
+      (c .before .before .before .lowest .ensures .1) (c .before .before .rest .ensures)) .0,
+)
 
 may-enter-requires : tie.Need-may-enter-requires Inv-loop μ-loop
-may-enter-requires c κs = stands-asked _ _ _ _ (c .before .before .before .before .before .loop .inv .have-moved) _ (c .before .before .before .lowest .ensures .0) (turning-wants _ _ _ _ _ _ _ (c .before .before .before .before .before .loop .inv) _ _ (c .before .before .before .lowest .ensures .1) (c .before .before .rest .ensures))
+may-enter-requires c κs = stands-asked _ _ _ _ (c .before .before .before .before .before .loop .inv .have-moved) _
+    (c .before .before .before .lowest .ensures .0) (turning-wants _ _ _ _ _ _ _ (c .before .before .before .before .before .loop .inv) _ _
+    (c .before .before .before .lowest .ensures .1) (c .before .before .rest .ensures))
 
 go-on-requires : tie.Need-go-on-requires Inv-loop μ-loop
-go-on-requires c κs = stands-free _ _ _ _ (c .before .before .before .before .before .before .before .before .before .loop .inv .have-moved) _ (c .before .before .before .before .before .before .before .lowest .ensures .0) (turning-wants _ _ _ _ _ _ _ (c .before .before .before .before .before .before .before .before .before .loop .inv) _ _ (c .before .before .before .before .before .before .before .lowest .ensures .1) (c .before .before .before .before .before .before .rest .ensures)) _ (c .before .before .before .may-enter .ensures) (c .before .before .if1 .taken)
+go-on-requires c κs = stands-free _ _ _ _ (c .before .before .before .before .before .before .before .before .before .loop .inv .have-moved) _
+    (c .before .before .before .before .before .before .before .lowest .ensures .0)
+    (turning-wants _ _ _ _ _ _ _ (c .before .before .before .before .before .before .before .before .before .loop .inv) _ _
+    (c .before .before .before .before .before .before .before .lowest .ensures .1)
+    (c .before .before .before .before .before .before .rest .ensures)) _ (c .before .before .before .may-enter .ensures) (c .before .before .if1 .taken)
 
 mul-at : tie.Need-mul-at Inv-loop μ-loop
 mul-at c = search needs
@@ -69,7 +80,12 @@ loop-less-3 : tie.Need-loop-less-3 Inv-loop μ-loop
 loop-less-3 c = c .before .before .before .before .rest .ensures .smaller
 
 loop-again-3 : tie.Need-loop-again-3 Inv-loop μ-loop
-loop-again-3 c = turning-held _ _ _ _ _ _ _ (c .before .before .before .before .before .before .before .loop .inv) _ _ (c .before .before .before .before .before .lowest .ensures .1) (c .before .before .before .before .rest .ensures) (stands-held _ _ _ _ (c .before .before .before .before .before .before .before .loop .inv .have-moved) _ (c .before .before .before .before .before .lowest .ensures .0) (turning-wants _ _ _ _ _ _ _ (c .before .before .before .before .before .before .before .loop .inv) _ _ (c .before .before .before .before .before .lowest .ensures .1) (c .before .before .before .before .rest .ensures)) _ (c .before .may-enter .ensures) (c .if1 .left))
+loop-again-3 c = turning-held _ _ _ _ _ _ _ (c .before .before .before .before .before .before .before .loop .inv) _ _
+    (c .before .before .before .before .before .lowest .ensures .1) (c .before .before .before .before .rest .ensures)
+    (stands-held _ _ _ _ (c .before .before .before .before .before .before .before .loop .inv .have-moved) _
+    (c .before .before .before .before .before .lowest .ensures .0) (turning-wants _ _ _ _ _ _ _
+    (c .before .before .before .before .before .before .before .loop .inv) _ _ (c .before .before .before .before .before .lowest .ensures .1)
+    (c .before .before .before .before .rest .ensures)) _ (c .before .may-enter .ensures) (c .if1 .left))
 
 returns : tie.Need-returns Inv-loop μ-loop
 returns c = turning-end _ _ _ _ _ _ _ (c .before .loop .inv) (c .loop-test .left)

@@ -36,13 +36,25 @@ less-requires-2 : tie.Need-less-requires-2
 less-requires-2 c κs = search needs
 
 latest-clear-requires : tie.Need-latest-clear-requires
-latest-clear-requires c κs = (rw (c .before .before .before .before .before .before .zone .ensures) (c .before .before .before .before .before .before .before .pre .zone-24), rw (c .before .before .follow .ensures) (c .before .before .before .before .before .before .before .pre .follow-most _), c .before .before .before .before .before .before .before .pre .leave-most)
+latest-clear-requires c κs = (
+  rw (c .before .before .before .before .before .before .zone .ensures)
+      (c .before .before .before .before .before .before .before .pre .zone-24),
+  rw (c .before .before .follow .ensures)
+      (c .before .before .before .before .before .before .before .pre .follow-most _),
+  c .before .before .before .before .before .before .before .pre .leave-most,
+)
 
 cross-requires : tie.Need-cross-requires
 cross-requires c κs = search needs
 
 latest-clear-requires-2 : tie.Need-latest-clear-requires-2
-latest-clear-requires-2 c κs = (rw (c .before .before .before .before .before .before .before .before .zone .ensures) (c .before .before .before .before .before .before .before .before .before .pre .zone-24), rw (c .cross .ensures) (c .before .before .before .before .before .before .before .before .before .pre .cross-most _), c .before .before .before .before .before .before .before .before .before .pre .leave-most)
+latest-clear-requires-2 c κs = (
+  rw (c .before .before .before .before .before .before .before .before .zone .ensures)
+      (c .before .before .before .before .before .before .before .before .before .pre .zone-24),
+  rw (c .cross .ensures)
+      (c .before .before .before .before .before .before .before .before .before .pre .cross-most _),
+  c .before .before .before .before .before .before .before .before .before .pre .leave-most,
+)
 
 mul-enter : tie.Need-mul-enter
 mul-enter c = search needs
@@ -51,7 +63,14 @@ element-write-enter : tie.Need-element-write-enter
 element-write-enter c = search needs
 
 returns : tie.Need-returns
-returns c = (latest-parts _ _ _ _ _ (c .before .before .before .before .before .before .before .before .before .before .pre) _ _ _ _ _ _ _ _ _ (c .before .before .before .before .before .before .before .before .before .zone .ensures) (c .before .before .before .before .before .follow .ensures) (c .before .cross .ensures) (c .before .before .before .before .before .before .less .ensures) (c .before .before .before .less2 .ensures) (c .before .before .latest-clear .ensures) (c .latest-clear2 .ensures), refl)
+returns c = (
+  latest-parts _ _ _ _ _ (c .before .before .before .before .before .before .before .before .before .before .pre) _ _ _ _ _ _ _ _ _
+      (c .before .before .before .before .before .before .before .before .before .zone .ensures)
+      (c .before .before .before .before .before .follow .ensures) (c .before .cross .ensures)
+      (c .before .before .before .before .before .before .less .ensures) (c .before .before .before .less2 .ensures)
+      (c .before .before .latest-clear .ensures) (c .latest-clear2 .ensures),
+  refl,
+)
 
 pub enter-zone-spec : {M : Type 1} → statement M
 enter-zone-spec =

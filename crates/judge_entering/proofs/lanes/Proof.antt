@@ -45,7 +45,13 @@ loop-less : tie.Need-loop-less Inv-loop μ-loop
 loop-less c = search needs
 
 loop-again : tie.Need-loop-again Inv-loop μ-loop
-loop-again c = (omega arith, simp length-set (c .before .before .loop .inv .1), own-turn _ _ _ _ (c .before .before .loop .same) (omega (arith, c .lane .ensures, c .before .before .before .before .pre (c .before .before .loop .c))) (c .lane .ensures) (c .before .before .before .on-lanes .ensures) (c .before .loop-test .taken) (c .before .before .loop .inv .1) (c .before .before .loop .inv .2))
+loop-again c = (
+  omega arith,
+  simp length-set (c .before .before .loop .inv .1),
+  own-turn _ _ _ _ (c .before .before .loop .same)
+      (omega (arith, c .lane .ensures, c .before .before .before .before .pre (c .before .before .loop .c))) (c .lane .ensures)
+      (c .before .before .before .on-lanes .ensures) (c .before .loop-test .taken) (c .before .before .loop .inv .1) (c .before .before .loop .inv .2),
+)
 
 returns : tie.Need-returns Inv-loop μ-loop
 returns c = entries-is _ 16 _ (c .before .loop .inv .1) (λ d h. c .before .loop .inv .2 d (omega (arith, h, c .loop-test .left)))

@@ -36,7 +36,12 @@ element-copy-out-later : tie.Need-element-copy-out-later Inv-loop μ-loop
 element-copy-out-later c = omega (arith, c .before .before .before .before .pre .0, c .before .lowest .ensures .0)
 
 add-later-2 : tie.Need-add-later-2 Inv-loop μ-loop
-add-later-2 c = omega (arith, c .before .before .before .before .before .pre .1, c .before .before .before .before .before .pre .2 (16 * c .before .before .before .before .before .args .z + c .before .before .lowest .result))
+add-later-2 c = omega (
+  arith,
+  c .before .before .before .before .before .pre .1,
+  c .before .before .before .before .before .pre .2
+      (16 * c .before .before .before .before .before .args .z + c .before .before .lowest .result),
+)
 
 later-requires : tie.Need-later-requires Inv-loop μ-loop
 later-requires c κs = search needs
@@ -45,7 +50,8 @@ loop-less : tie.Need-loop-less Inv-loop μ-loop
 loop-less c = c .before .before .rest .ensures .smaller
 
 loop-again : tie.Need-loop-again Inv-loop μ-loop
-loop-again c = c .before .before .before .before .before .loop .inv ∙ rw (c .later .ensures) (latest-turn _ _ _ _ _ (c .before .before .before .lowest .ensures .0) (c .before .before .before .lowest .ensures .1) (c .before .before .rest .ensures))
+loop-again c = c .before .before .before .before .before .loop .inv ∙ rw (c .later .ensures)
+    (latest-turn _ _ _ _ _ (c .before .before .before .lowest .ensures .0) (c .before .before .before .lowest .ensures .1) (c .before .before .rest .ensures))
 
 returns : tie.Need-returns Inv-loop μ-loop
 returns c = sym (c .before .loop .inv ∙ latest-none _ _ _ (c .loop-test .left))

@@ -44,10 +44,19 @@ loop-less : tie.Need-loop-less Inv-loop μ-loop
 loop-less c = search needs
 
 loop-again : tie.Need-loop-again Inv-loop μ-loop
-loop-again c = (omega arith, on-turn _ _ _ _ _ (omega (arith, c .before .lane .ensures, c .before .before .before .before .pre (c .before .before .before .loop .c))) (c .before .lane .ensures) (c .before .before .before .loop .inv .1) (c .with .ensures))
+loop-again c = (
+  omega arith,
+  on-turn _ _ _ _ _ (omega (
+    arith,
+    c .before .lane .ensures,
+    c .before .before .before .before .pre
+        (c .before .before .before .loop .c),
+  )) (c .before .lane .ensures) (c .before .before .before .loop .inv .1) (c .with .ensures),
+)
 
 returns : tie.Need-returns Inv-loop μ-loop
-returns c = c .before .loop .inv .1 ∙ ap (λ (n : ℕ). entries 16 0 (onLane (lane (c .before .before .args .sheet .now)) n)) (omega (arith, c .before .loop .inv .0, c .loop-test .left))
+returns c = c .before .loop .inv .1 ∙ ap (λ (n : ℕ). entries 16 0 (onLane (lane (c .before .before .args .sheet .now)) n))
+    (omega (arith, c .before .loop .inv .0, c .loop-test .left))
 
 pub on-lanes-spec : {M : Type 1} → statement M
 on-lanes-spec =

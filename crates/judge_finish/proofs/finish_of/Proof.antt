@@ -32,7 +32,11 @@ loop-less : tie.Need-loop-less Inv-loop μ-loop
 loop-less c = search needs
 
 loop-again : tie.Need-loop-again Inv-loop μ-loop
-loop-again c = (omega (arith, c .before .before .loop-test .taken), largest-next _ _ _ _ _ (c .before .before .before .loop .inv .1) (c .before .last-leaving .ensures) (c .later .ensures))
+loop-again c = (
+  omega (arith, c .before .before .loop-test .taken),
+  largest-next _ _ _ _ _ (c .before .before .before .loop .inv .1)
+      (c .before .last-leaving .ensures) (c .later .ensures),
+)
 
 returns : tie.Need-returns Inv-loop μ-loop
 returns c = largest-all _ _ _ (omega (arith, c .before .loop .inv .0, c .loop-test .left)) (c .before .loop .inv .1)

@@ -28,13 +28,29 @@ element-copy-out-result : tie.Need-element-copy-out-result
 element-copy-out-result c = omega (arith, c .before .before .pre .0 .steps-most _ (c .before .before .pre .1), c .before .steps .ensures, c .if1 .left)
 
 passing-requires : tie.Need-passing-requires
-passing-requires c κs = omega (arith, c .before .before .before .pre .0 .steps-most _ (c .before .before .before .pre .1), c .before .before .steps .ensures, c .before .if1 .left)
+passing-requires c κs = omega (
+  arith,
+  c .before .before .before .pre .0 .steps-most _ (c .before .before .before .pre .1),
+  c .before .before .steps .ensures,
+  c .before .if1 .left,
+)
 
 add-result : tie.Need-add-result
-add-result c = omega (arith, c .passing .ensures, c .before .before .before .before .pre .0 .passing-most (8 * c .before .before .before .before .args .c + (c .before .before .before .steps .result - 1)), c .before .before .before .before .pre .0 .enter-most (8 * c .before .before .before .before .args .c + (c .before .before .before .steps .result - 1)))
+add-result c = omega (
+  arith,
+  c .passing .ensures,
+  c .before .before .before .before .pre .0 .passing-most
+      (8 * c .before .before .before .before .args .c + (c .before .before .before .steps .result - 1)),
+  c .before .before .before .before .pre .0 .enter-most (8 * c .before .before .before .before .args .c + (c .before .before .before .steps .result - 1)),
+)
 
 returns-2 : tie.Need-returns-2
-returns-2 c = rw (c .passing .ensures, c .before .before .before .steps .ensures, ne-eqb _ _ (rw (c .before .before .before .steps .ensures) at (c .before .before .if1 .left)))
+returns-2 c = rw (
+  c .passing .ensures,
+  c .before .before .before .steps .ensures,
+  ne-eqb _ _
+      (rw (c .before .before .before .steps .ensures) at (c .before .before .if1 .left)),
+)
 
 pub last-leaving-spec : {M : Type 1} → statement M
 last-leaving-spec =

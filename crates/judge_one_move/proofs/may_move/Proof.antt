@@ -18,19 +18,31 @@ mul-may-enter : tie.Need-mul-may-enter
 mul-may-enter c = search needs
 
 add-may-enter : tie.Need-add-may-enter
-add-may-enter c = omega (arith, steps-8 _ _ _ _ (c .before .before .before .before .pre .0) _ (c .before .before .before .before .pre .1), c .before .wide .ensures .0, c .before .before .before .steps .ensures)
+add-may-enter c = omega (
+  arith,
+  steps-8 _ _ _ _ (c .before .before .before .before .pre .0) _ (c .before .before .before .before .pre .1),
+  c .before .wide .ensures .0,
+  c .before .before .before .steps .ensures,
+)
 
 may-enter-requires : tie.Need-may-enter-requires
-may-enter-requires c κs = x-few _ _ _ _ (c .before .before .before .before .pre .0) _ (c .before .before .before .before .pre .1) (rw (c .before .wide .ensures .0, c .before .before .before .steps .ensures) at (c .if1 .taken)) _ (rw (c .before .wide .ensures .0))
+may-enter-requires c κs = x-few _ _ _ _ (c .before .before .before .before .pre .0) _ (c .before .before .before .before .pre .1)
+    (rw (c .before .wide .ensures .0, c .before .before .before .steps .ensures) at (c .if1 .taken)) _ (rw (c .before .wide .ensures .0))
 
 returns : tie.Need-returns
-returns c = enter-says _ _ _ _ (c .before .before .before .before .before .pre .0) _ (c .before .before .before .before .before .pre .1) (rw (c .before .before .wide .ensures .0, c .before .before .before .before .steps .ensures) at (c .before .if1 .taken)) _ (rw (c .before .before .wide .ensures .0)) _ (c .may-enter .ensures)
+returns c = enter-says _ _ _ _ (c .before .before .before .before .before .pre .0) _ (c .before .before .before .before .before .pre .1)
+    (rw (c .before .before .wide .ensures .0, c .before .before .before .before .steps .ensures) at (c .before .if1 .taken)) _
+    (rw (c .before .before .wide .ensures .0)) _ (c .may-enter .ensures)
 
 returns-2 : tie.Need-returns-2
-returns-2 c = absent-says _ _ _ _ (c .before .before .before .before .before .pre .0) _ (c .before .before .before .before .before .pre .1) (rw (c .before .before .before .before .steps .ensures) at (c .if2 .taken))
+returns-2 c = absent-says _ _ _ _ (c .before .before .before .before .before .pre .0) _ (c .before .before .before .before .before .pre .1)
+    (rw (c .before .before .before .before .steps .ensures) at (c .if2 .taken))
 
 returns-3 : tie.Need-returns-3
-returns-3 c = rw (c .before .before .wide .ensures .0, c .before .before .before .before .steps .ensures) (past-says _ _ _ _ (c .before .before .before .before .before .pre .0) _ (c .before .before .before .before .before .pre .1) (rw (c .before .before .wide .ensures .0, c .before .before .before .before .steps .ensures) at (c .before .if1 .left)) (rw (c .before .before .before .before .steps .ensures) at (c .if2 .left)))
+returns-3 c = rw (c .before .before .wide .ensures .0, c .before .before .before .before .steps .ensures)
+    (past-says _ _ _ _ (c .before .before .before .before .before .pre .0) _ (c .before .before .before .before .before .pre .1)
+    (rw (c .before .before .wide .ensures .0, c .before .before .before .before .steps .ensures) at (c .before .if1 .left))
+    (rw (c .before .before .before .before .steps .ensures) at (c .if2 .left)))
 
 pub may-move-spec : {M : Type 1} → statement M
 may-move-spec =

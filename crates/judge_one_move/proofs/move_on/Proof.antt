@@ -40,9 +40,14 @@ leave-zone-requires c κs = search needs
 returns : tie.Need-returns
 returns c = record {
   time = c .before .before .before .before .enter-zone .result;
-  time-is = rw (c .before .before .before .before .before .before .before .passing .ensures, c .before .before .before .before .before .before .before .before .before .travel .ensures) at (c .before .before .before .before .enter-zone .ensures .0);
+  time-is = rw (
+    c .before .before .before .before .before .before .before .passing .ensures,
+    c .before .before .before .before .before .before .before .before .before .travel .ensures,
+  ) at
+      (c .before .before .before .before .enter-zone .ensures .0);
   entered-is = c .before .before .before .before .enter-zone .ensures .1;
-  zone-left = rw (c .before .zone .ensures, c .before .before .before .before .before .before .before .before .before .travel .ensures) at (c .leave-zone .ensures);
+  zone-left = rw (c .before .zone .ensures, c .before .before .before .before .before .before .before .before .before .travel .ensures) at
+      (c .leave-zone .ensures);
 }
 
 pub move-on-spec : {M : Type 1} → statement M

@@ -44,7 +44,8 @@ pub record CanGoOn (sheet same left leave enter : List ℕ) (c x : ℕ) : Type 0
 pub record GoneOn (sheet ahead left leave enter more after entered : List ℕ) (c x : ℕ) : Type 0 where
   pub time : ℕ
   pub time-is : time
-      ≡ latest (clearOf sheet leave (getD (zone sheet) x 0) c) (getD ahead x 0) (getD enter (x - 1) 0 + getD (passing sheet) (x - 1) 0 + getD (travel sheet) (x - 1) 0)
+      ≡ latest (clearOf sheet leave (getD (zone sheet) x 0) c) (getD ahead x 0)
+      (getD enter (x - 1) 0 + getD (passing sheet) (x - 1) 0 + getD (travel sheet) (x - 1) 0)
   pub entered-is : entered ≡ set enter x time
   pub zone-left : ZoneLeft left leave more after (getD (zone sheet) (x - 1) 0) c (time - getD (travel sheet) (x - 1) 0)
 

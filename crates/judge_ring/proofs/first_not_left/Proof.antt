@@ -14,7 +14,8 @@ use Rattle.judge_ring.proofs.first_not_left.Statement.{statement}
 use Rattle.judge_ring.proofs.first_not_left.Tie as tie
 
 abbrev Inv-loop : tie.InvT-loop
-Inv-loop count list left z n k₀ k = (k ≤ n) × (firstNotLeft count list left z ≡ firstOf (λ d. not (has (getD left z 0) d)) (entries (n - k) k λ j. getD list (16 * z + j) 0))
+Inv-loop count list left z n k₀ k = (k ≤ n) × (firstNotLeft count list left z ≡ firstOf (λ d. not (has (getD left z 0) d))
+    (entries (n - k) k λ j. getD list (16 * z + j) 0))
 
 abbrev μ-loop : tie.MeasureT-loop
 μ-loop count list left z n k₀ k = n - k
@@ -50,7 +51,12 @@ has-requires : tie.Need-has-requires Inv-loop μ-loop
 has-requires c κs = c .before .before .before .before .before .pre .1 .cart _ (c .before .before .loop-test .taken)
 
 returns : tie.Need-returns Inv-loop μ-loop
-returns c = (sym (c .before .before .before .before .before .loop .inv .1 ∙ first-here _ _ _ _ (c .before .before .before .before .loop-test .taken) (ap not (sym (c .before .has .ensures)) ∙ c .if1 .taken)), c .before .before .before .before .before .before .before .pre .1 .cart _ (c .before .before .before .before .loop-test .taken))
+returns c = (
+  sym (c .before .before .before .before .before .loop .inv .1 ∙ first-here _ _ _ _ (c .before .before .before .before .loop-test .taken)
+      (ap not (sym (c .before .has .ensures)) ∙ c .if1 .taken)),
+  c .before .before .before .before .before .before .before .pre .1 .cart _
+      (c .before .before .before .before .loop-test .taken),
+)
 
 add-k : tie.Need-add-k Inv-loop μ-loop
 add-k c = search needs
@@ -59,7 +65,11 @@ loop-less : tie.Need-loop-less Inv-loop μ-loop
 loop-less c = search needs
 
 loop-again : tie.Need-loop-again Inv-loop μ-loop
-loop-again c = (omega (arith, c .before .before .before .before .loop-test .taken), c .before .before .before .before .before .loop .inv .1 ∙ first-later _ _ _ _ (c .before .before .before .before .loop-test .taken) (ap not (sym (c .before .has .ensures)) ∙ c .if1 .left))
+loop-again c = (
+  omega (arith, c .before .before .before .before .loop-test .taken),
+  c .before .before .before .before .before .loop .inv .1 ∙
+      first-later _ _ _ _ (c .before .before .before .before .loop-test .taken) (ap not (sym (c .before .has .ensures)) ∙ c .if1 .left),
+)
 
 returns-2 : tie.Need-returns-2 Inv-loop μ-loop
 returns-2 c = (sym (c .before .loop .inv .1 ∙ first-none _ _ _ _ (c .loop-test .left)), omega arith)

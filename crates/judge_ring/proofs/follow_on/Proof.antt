@@ -31,10 +31,19 @@ loop-less : tie.Need-loop-less Inv-loop μ-loop
 loop-less c = search needs
 
 loop-again : tie.Need-loop-again Inv-loop μ-loop
-loop-again c = (omega arith, rw (add-one (c .before .before .loop .k)) (ap (byTable (c .before .before .before .args .to .now)) (c .before .before .loop .inv .1)), c .before .before .before .pre .1 (c .before .before .loop .d))
+loop-again c = (
+  omega arith,
+  rw (add-one (c .before .before .loop .k)) (ap (byTable (c .before .before .before .args .to .now))
+      (c .before .before .loop .inv .1)),
+  c .before .before .before .pre .1 (c .before .before .loop .d),
+)
 
 returns : tie.Need-returns Inv-loop μ-loop
-returns c = (c .before .loop .inv .1 ∙ ap (λ (n : ℕ). follow (byTable (c .before .before .args .to .now)) n (c .before .before .args .c)) {x = c .before .loop .k} {y = 16} (omega (arith, c .before .loop .inv .0, c .loop-test .left)), c .before .loop .inv .2)
+returns c = (
+  c .before .loop .inv .1 ∙ ap (λ (n : ℕ). follow (byTable (c .before .before .args .to .now)) n (c .before .before .args .c))
+      {x = c .before .loop .k} {y = 16} (omega (arith, c .before .loop .inv .0, c .loop-test .left)),
+  c .before .loop .inv .2,
+)
 
 pub follow-on-spec : {M : Type 1} → statement M
 follow-on-spec =

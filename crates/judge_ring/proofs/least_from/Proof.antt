@@ -34,10 +34,22 @@ loop-less : tie.Need-loop-less Inv-loop μ-loop
 loop-less c = search needs
 
 loop-again : tie.Need-loop-again Inv-loop μ-loop
-loop-again c = (omega (arith, c .before .before .loop-test .taken), rw (c .least .ensures) (c .before .before .before .loop .inv .1 ∙ least-turn _ 16 (c .before .before .before .loop .k) _ _ (c .before .before .loop-test .taken) (c .before .before .before .loop .inv .2)), omega (arith, c .least .ensures), c .before .before .before .before .pre .1 (c .before .before .before .loop .d))
+loop-again c = (
+  omega (arith, c .before .before .loop-test .taken),
+  rw (c .least .ensures)
+      (c .before .before .before .loop .inv .1 ∙ least-turn _ 16 (c .before .before .before .loop .k) _ _ (c .before .before .loop-test .taken)
+      (c .before .before .before .loop .inv .2)),
+  omega (arith, c .least .ensures),
+  c .before .before .before .before .pre .1
+      (c .before .before .before .loop .d),
+)
 
 returns : tie.Need-returns Inv-loop μ-loop
-returns c = (sym (c .before .loop .inv .1 ∙ least-end _ 16 (c .before .loop .k) _ _ (c .loop-test .left) (c .before .loop .inv .2)), omega (arith, c .before .loop .inv .2, c .before .loop .inv .3))
+returns c = (
+  sym (c .before .loop .inv .1 ∙ least-end _ 16 (c .before .loop .k) _ _ (c .loop-test .left) (c .before .loop .inv .2)),
+  omega
+      (arith, c .before .loop .inv .2, c .before .loop .inv .3),
+)
 
 pub least-from-spec : {M : Type 1} → statement M
 least-from-spec =

@@ -22,7 +22,12 @@ not-out-requires : tie.Need-not-out-requires Inv-loop μ-loop
 not-out-requires c κs = c .loop-test .taken
 
 returns : tie.Need-returns Inv-loop μ-loop
-returns c = record { most = c .before .before .before .loop .inv .0; lower-out = c .before .before .before .loop .inv .1; not-out = λ _. c .before .not-out .ensures .0 (c .if1 .taken) }
+returns c = record {
+  most = c .before .before .before .loop .inv .0;
+  lower-out = c .before .before .before .loop .inv .1;
+  not-out = λ _.
+      c .before .not-out .ensures .0 (c .if1 .taken);
+}
 
 add-c : tie.Need-add-c Inv-loop μ-loop
 add-c c = search needs
@@ -31,7 +36,12 @@ loop-less : tie.Need-loop-less Inv-loop μ-loop
 loop-less c = search needs
 
 loop-again : tie.Need-loop-again Inv-loop μ-loop
-loop-again c = (omega (arith, c .before .before .loop-test .taken), passed-next (parts.steps (c .before .before .before .before .args .sheet .now)) (c .before .before .before .before .args .at .now) _ (c .before .before .before .loop .inv .1) (λ h. false≢true (sym (c .if1 .left) ∙ c .before .not-out .ensures .1 h)))
+loop-again c = (
+  omega (arith, c .before .before .loop-test .taken),
+  passed-next (parts.steps (c .before .before .before .before .args .sheet .now))
+      (c .before .before .before .before .args .at .now) _ (c .before .before .before .loop .inv .1)
+      (λ h. false≢true (sym (c .if1 .left) ∙ c .before .not-out .ensures .1 h)),
+)
 
 returns-2 : tie.Need-returns-2 Inv-loop μ-loop
 returns-2 c = record { most = c .before .loop .inv .0; lower-out = c .before .loop .inv .1; not-out = λ h. absurd (omega (arith, c .loop-test .left, h)) }

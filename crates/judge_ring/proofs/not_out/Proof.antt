@@ -1,5 +1,5 @@
-use mathlib.Core.Path.{sym, _∙_}
 -- A cart without steps makes no move; another is out past its last step.
+use mathlib.Core.Path.{sym, _∙_}
 use mathlib.Core.Bool.{false≢true}
 use native.Mathlib.Omega.{arith}
 use Rattle.routes.proofs.Moves.{moves-none}
@@ -21,7 +21,8 @@ wide-requires : tie.Need-wide-requires
 wide-requires c κs = search needs
 
 returns-2 : tie.Need-returns-2
-returns-2 c = rw (c .wide .ensures .0, c .before .before .before .steps .ensures) (steps-left _ _ (rw (c .before .before .before .steps .ensures) at (c .before .before .if1 .left)))
+returns-2 c = rw (c .wide .ensures .0, c .before .before .before .steps .ensures)
+    (steps-left _ _ (rw (c .before .before .before .steps .ensures) at (c .before .before .if1 .left)))
 
 pub not-out-spec : {M : Type 1} → statement M
 not-out-spec =

@@ -12,7 +12,8 @@ use Rattle.judge_ring.proofs.pointing.Statement.{statement}
 use Rattle.judge_ring.proofs.pointing.Tie as tie
 
 abbrev Inv-loop : tie.InvT-loop
-Inv-loop count list left wanted to₀ c₀ to c = (c ≤ 16) × (to ≡ table 16 c (λ d. firstNotLeft count list left (getD wanted d 0))) × Below (λ d. firstNotLeft count list left (getD wanted d 0)) 16 c
+Inv-loop count list left wanted to₀ c₀ to c = (c ≤ 16) × (to ≡ table 16 c (λ d. firstNotLeft count list left (getD wanted d 0))) × Below
+    (λ d. firstNotLeft count list left (getD wanted d 0)) 16 c
 
 abbrev μ-loop : tie.MeasureT-loop
 μ-loop count list left wanted to₀ c₀ to c = 16 - c
@@ -42,7 +43,13 @@ loop-less : tie.Need-loop-less Inv-loop μ-loop
 loop-less c = search needs
 
 loop-again : tie.Need-loop-again Inv-loop μ-loop
-loop-again c = (omega (arith, c .before .before .loop-test .taken), table-next 16 _ _ _ _ (c .before .before .loop-test .taken) (c .first-not-left .ensures .0) (c .before .before .before .loop .inv .1), below-next _ 16 _ (c .before .before .before .loop .inv .2) (rw (c .first-not-left .ensures .0) at (c .first-not-left .ensures .1)))
+loop-again c = (
+  omega (arith, c .before .before .loop-test .taken),
+  table-next 16 _ _ _ _ (c .before .before .loop-test .taken)
+      (c .first-not-left .ensures .0) (c .before .before .before .loop .inv .1),
+  below-next _ 16 _ (c .before .before .before .loop .inv .2)
+      (rw (c .first-not-left .ensures .0) at (c .first-not-left .ensures .1)),
+)
 
 returns : tie.Need-returns Inv-loop μ-loop
 returns c = filled-below _ 16 _ _ (omega (arith, c .before .loop .inv .0, c .loop-test .left)) (omega arith) (c .before .loop .inv .1) (c .before .loop .inv .2)

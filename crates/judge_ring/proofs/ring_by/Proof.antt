@@ -43,16 +43,36 @@ cast-cart-2 : tie.Need-cast-cart-2 Inv-loop μ-loop
 cast-cart-2 c = omega (arith, c .before .loop .inv .next-cart)
 
 array-write-cart-2 : tie.Need-array-write-cart-2 Inv-loop μ-loop
-array-write-cart-2 c = omega (arith, so-far-few _ _ (c .before .before .before .before .before .before .pre .1) _ (c .before .before .before .before .before .before .pre .0) _ (first-is (c .before .before .before .before .before .before .args .to .now) (c .before .before .before .before .before .before .args .c) _ _ (c .before .before .before .before .before .follow-on .ensures .0) (c .before .before .before .before .least-from .ensures .0)) _ _ _ _ (c .before .loop .inv) (c .loop-test .taken))
+array-write-cart-2 c = omega (
+  arith,
+  so-far-few _ _ (c .before .before .before .before .before .before .pre .1) _
+      (c .before .before .before .before .before .before .pre .0) _ (first-is (c .before .before .before .before .before .before .args .to .now)
+      (c .before .before .before .before .before .before .args .c) _ _ (c .before .before .before .before .before .follow-on .ensures .0)
+      (c .before .before .before .before .least-from .ensures .0)) _ _ _ _ (c .before .loop .inv) (c .loop-test .taken),
+)
 
 element-copy-out-zone-2 : tie.Need-element-copy-out-zone-2 Inv-loop μ-loop
 element-copy-out-zone-2 c = omega (arith, c .before .loop .inv .next-cart)
 
 array-write-zone-2 : tie.Need-array-write-zone-2 Inv-loop μ-loop
-array-write-zone-2 c = omega (arith, so-far-few _ _ (c .before .before .before .before .before .before .before .pre .1) _ (c .before .before .before .before .before .before .before .pre .0) _ (first-is (c .before .before .before .before .before .before .before .args .to .now) (c .before .before .before .before .before .before .before .args .c) _ _ (c .before .before .before .before .before .before .follow-on .ensures .0) (c .before .before .before .before .before .least-from .ensures .0)) _ _ _ _ (c .before .before .loop .inv) (c .before .loop-test .taken))
+array-write-zone-2 c = omega (
+  arith,
+  so-far-few _ _ (c .before .before .before .before .before .before .before .pre .1) _
+      (c .before .before .before .before .before .before .before .pre .0) _ (first-is
+      (c .before .before .before .before .before .before .before .args .to .now) (c .before .before .before .before .before .before .before .args .c) _
+      _ (c .before .before .before .before .before .before .follow-on .ensures .0) (c .before .before .before .before .before .least-from .ensures .0))
+      _ _ _ _ (c .before .before .loop .inv) (c .before .loop-test .taken),
+)
 
 add-n : tie.Need-add-n Inv-loop μ-loop
-add-n c = omega (arith, so-far-few _ _ (c .before .before .before .before .before .before .before .pre .1) _ (c .before .before .before .before .before .before .before .pre .0) _ (first-is (c .before .before .before .before .before .before .before .args .to .now) (c .before .before .before .before .before .before .before .args .c) _ _ (c .before .before .before .before .before .before .follow-on .ensures .0) (c .before .before .before .before .before .least-from .ensures .0)) _ _ _ _ (c .before .before .loop .inv) (c .before .loop-test .taken))
+add-n c = omega (
+  arith,
+  so-far-few _ _ (c .before .before .before .before .before .before .before .pre .1) _
+      (c .before .before .before .before .before .before .before .pre .0) _ (first-is
+      (c .before .before .before .before .before .before .before .args .to .now) (c .before .before .before .before .before .before .before .args .c) _
+      _ (c .before .before .before .before .before .before .follow-on .ensures .0) (c .before .before .before .before .before .least-from .ensures .0))
+      _ _ _ _ (c .before .before .loop .inv) (c .before .loop-test .taken),
+)
 
 element-copy-out-d-2 : tie.Need-element-copy-out-d-2 Inv-loop μ-loop
 element-copy-out-d-2 c = omega (arith, c .before .before .loop .inv .next-cart)
@@ -61,13 +81,31 @@ cast-d-2 : tie.Need-cast-d-2 Inv-loop μ-loop
 cast-d-2 c = omega (arith, c .before .before .before .before .before .before .before .before .pre .1 (c .before .before .before .loop .d))
 
 loop-less : tie.Need-loop-less Inv-loop μ-loop
-loop-less c = omega (arith, so-far-few _ _ (c .before .before .before .before .before .before .before .before .pre .1) _ (c .before .before .before .before .before .before .before .before .pre .0) _ (first-is (c .before .before .before .before .before .before .before .before .args .to .now) (c .before .before .before .before .before .before .before .before .args .c) _ _ (c .before .before .before .before .before .before .before .follow-on .ensures .0) (c .before .before .before .before .before .before .least-from .ensures .0)) _ _ _ _ (c .before .before .before .loop .inv) (c .before .before .loop-test .taken))
+loop-less c = omega (
+  arith,
+  so-far-few _ _ (c .before .before .before .before .before .before .before .before .pre .1) _
+      (c .before .before .before .before .before .before .before .before .pre .0) _
+      (first-is (c .before .before .before .before .before .before .before .before .args .to .now)
+      (c .before .before .before .before .before .before .before .before .args .c) _ _
+      (c .before .before .before .before .before .before .before .follow-on .ensures .0)
+      (c .before .before .before .before .before .before .least-from .ensures .0)) _ _ _ _ (c .before .before .before .loop .inv)
+      (c .before .before .loop-test .taken),
+)
 
 loop-again : tie.Need-loop-again Inv-loop μ-loop
-loop-again c = so-far-next _ _ (c .before .before .before .before .before .before .before .before .pre .1) _ (c .before .before .before .before .before .before .before .before .pre .0) _ (first-is (c .before .before .before .before .before .before .before .before .args .to .now) (c .before .before .before .before .before .before .before .before .args .c) _ _ (c .before .before .before .before .before .before .before .follow-on .ensures .0) (c .before .before .before .before .before .before .least-from .ensures .0)) _ _ _ _ (c .before .before .before .loop .inv) (c .before .before .loop-test .taken)
+loop-again c = so-far-next _ _ (c .before .before .before .before .before .before .before .before .pre .1) _
+    (c .before .before .before .before .before .before .before .before .pre .0) _
+    (first-is (c .before .before .before .before .before .before .before .before .args .to .now)
+    (c .before .before .before .before .before .before .before .before .args .c) _ _
+    (c .before .before .before .before .before .before .before .follow-on .ensures .0)
+    (c .before .before .before .before .before .before .least-from .ensures .0)) _ _ _ _ (c .before .before .before .loop .inv)
+    (c .before .before .loop-test .taken)
 
 returns : tie.Need-returns Inv-loop μ-loop
-returns c = so-far-end _ _ (c .before .before .before .before .before .before .pre .1) _ (c .before .before .before .before .before .before .pre .0) _ (first-is (c .before .before .before .before .before .before .args .to .now) (c .before .before .before .before .before .before .args .c) _ _ (c .before .before .before .before .before .follow-on .ensures .0) (c .before .before .before .before .least-from .ensures .0)) _ _ _ _ (c .before .loop .inv) (c .loop-test .left)
+returns c = so-far-end _ _ (c .before .before .before .before .before .before .pre .1) _ (c .before .before .before .before .before .before .pre .0)
+    _ (first-is (c .before .before .before .before .before .before .args .to .now) (c .before .before .before .before .before .before .args .c) _ _
+    (c .before .before .before .before .before .follow-on .ensures .0) (c .before .before .before .before .least-from .ensures .0)) _ _ _ _
+    (c .before .loop .inv) (c .loop-test .left)
 
 pub ring-by-spec : {M : Type 1} → statement M
 ring-by-spec =

@@ -23,7 +23,8 @@ zone-requires : tie.Need-zone-requires
 zone-requires c κs = search needs
 
 returns : tie.Need-returns
-returns c = rw (lt-ltb _ _ (rw (c .before .before .before .wide .ensures .0, c .before .before .steps .ensures) at (c .before .if1 .taken))) (rw (c .before .before .before .wide .ensures .0) at (c .zone .ensures))
+returns c = rw (lt-ltb _ _ (rw (c .before .before .before .wide .ensures .0, c .before .before .steps .ensures) at (c .before .if1 .taken)))
+    (rw (c .before .before .before .wide .ensures .0) at (c .zone .ensures))
 
 returns-2 : tie.Need-returns-2
 returns-2 c = rw (le-ltb _ _ (rw (c .before .before .wide .ensures .0, c .before .steps .ensures) at (c .if1 .left)))

@@ -20,7 +20,12 @@ loop-holds : tie.Need-loop-holds Inv-loop μ-loop
 loop-holds c = (omega arith, table-none 16 _)
 
 wanted-zone-requires : tie.Need-wanted-zone-requires Inv-loop μ-loop
-wanted-zone-requires c κs = (c .loop-test .taken, c .before .before .pre .steps-most _ (c .loop-test .taken), c .before .before .pre .zone-below _ (c .loop-test .taken))
+wanted-zone-requires c κs = (
+  c .loop-test .taken,
+  c .before .before .pre .steps-most _ (c .loop-test .taken),
+  c .before .before .pre .zone-below _
+      (c .loop-test .taken),
+)
 
 cast-wanted : tie.Need-cast-wanted Inv-loop μ-loop
 cast-wanted c = omega (arith, c .wanted-zone .ensures, c .before .before .before .pre .zone-below _ (c .before .loop-test .taken))
@@ -35,7 +40,11 @@ loop-less : tie.Need-loop-less Inv-loop μ-loop
 loop-less c = search needs
 
 loop-again : tie.Need-loop-again Inv-loop μ-loop
-loop-again c = (omega (arith, c .before .loop-test .taken), table-next 16 _ _ _ _ (c .before .loop-test .taken) (c .wanted-zone .ensures) (c .before .before .loop .inv .1))
+loop-again c = (
+  omega (arith, c .before .loop-test .taken),
+  table-next 16 _ _ _ _ (c .before .loop-test .taken) (c .wanted-zone .ensures)
+      (c .before .before .loop .inv .1),
+)
 
 returns : tie.Need-returns Inv-loop μ-loop
 returns c = c .before .loop .inv .1 ∙ table-all 16 _ _ (omega (arith, c .before .loop .inv .0, c .loop-test .left))

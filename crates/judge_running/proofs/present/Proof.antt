@@ -32,7 +32,12 @@ loop-less : tie.Need-loop-less Inv-loop μ-loop
 loop-less c = search needs
 
 loop-again : tie.Need-loop-again Inv-loop μ-loop
-loop-again c = (omega arith, ⊎-elim (λ w. w .2 ∙ present-with _ _ _ _ (rw (c .before .steps .ensures) at (w .0 .taken)) (c .before .before .before .loop .inv .1) (w .1 .ensures)) (λ w. w .1 ∙ present-as-before _ _ _ (rw (c .before .steps .ensures) at (w .0 .left)) (c .before .before .before .loop .inv .1)) (c .if1 .came))
+loop-again c = (
+  omega arith,
+  ⊎-elim (λ w. w .2 ∙ present-with _ _ _ _ (rw (c .before .steps .ensures) at (w .0 .taken))
+      (c .before .before .before .loop .inv .1) (w .1 .ensures)) (λ w. w .1 ∙ present-as-before _ _ _ (rw (c .before .steps .ensures) at (w .0 .left))
+      (c .before .before .before .loop .inv .1)) (c .if1 .came),
+)
 
 returns : tie.Need-returns Inv-loop μ-loop
 returns c = c .before .loop .inv .1 ∙ ap (presentSet (steps (c .before .before .args .sheet .now))) (omega (arith, c .before .loop .inv .0, c .loop-test .left))

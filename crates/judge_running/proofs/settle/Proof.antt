@@ -11,7 +11,8 @@ use Rattle.judge_running.proofs.settle.Statement.{statement}
 use Rattle.judge_running.proofs.settle.Tie as tie
 
 abbrev Inv-loop : tie.InvT-loop
-Inv-loop sheet ahead enter₀ order₀ same at₀ left₀ leave₀ made₀ going₀ enter order at left leave made going = Settling (crossingOf sheet ahead) (givenOf sheet) at left leave enter order made going
+Inv-loop sheet ahead enter₀ order₀ same at₀ left₀ leave₀ made₀ going₀ enter order at left leave made going = Settling (crossingOf sheet ahead)
+    (givenOf sheet) at left leave enter order made going
 
 abbrev μ-loop : tie.MeasureT-loop
 μ-loop sheet ahead enter₀ order₀ same at₀ left₀ leave₀ made₀ going₀ enter order at left leave made going = 144 - made + min 1 going
@@ -24,13 +25,21 @@ present-requires : tie.Need-present-requires Inv-loop μ-loop
 present-requires c κs = search needs
 
 loop-holds : tie.Need-loop-holds Inv-loop μ-loop
-loop-holds c = settling-start _ _ 16 _ _ _ _ _ (carts-16 _ _ _) (c .before .before .pre .2) (rw (c .before .before .pre .1) (running-start _ _ 16 24 384 128 (c .before .before .pre .0) (carts-16 _ _ _) refl refl refl)) (rw (c .present .ensures) (present-inside _ _ _))
+loop-holds c = settling-start _ _ 16 _ _ _ _ _ (carts-16 _ _ _) (c .before .before .pre .2)
+    (rw (c .before .before .pre .1) (running-start _ _ 16 24 384 128 (c .before .before .pre .0) (carts-16 _ _ _) refl refl refl))
+    (rw (c .present .ensures) (present-inside _ _ _))
 
 sweep-requires : tie.Need-sweep-requires Inv-loop μ-loop
-sweep-requires c κs = (c .before .before .before .before .before .before .before .loop .inv .underway, c .before .before .before .before .before .before .before .loop .inv .going-is .inside (c .before .before .before .before .before .before .loop-test .taken), c .before .before .before .before .before .before .before .before .before .lanes .ensures)
+sweep-requires c κs = (
+  c .before .before .before .before .before .before .before .loop .inv .underway,
+  c .before .before .before .before .before .before .before .loop .inv .going-is .inside
+      (c .before .before .before .before .before .before .loop-test .taken),
+  c .before .before .before .before .before .before .before .before .before .lanes .ensures,
+)
 
 loop-less : tie.Need-loop-less Inv-loop μ-loop
-loop-less c = settling-less _ _ _ _ _ _ _ _ _ (c .before .before .before .before .before .before .before .before .loop .inv) _ _ _ _ _ _ _ (c .sweep .ensures) (c .before .before .before .before .before .before .before .loop-test .taken)
+loop-less c = settling-less _ _ _ _ _ _ _ _ _ (c .before .before .before .before .before .before .before .before .loop .inv) _ _ _ _ _ _ _
+    (c .sweep .ensures) (c .before .before .before .before .before .before .before .loop-test .taken)
 
 loop-again : tie.Need-loop-again Inv-loop μ-loop
 loop-again c = settling-turn _ _ _ _ _ _ _ _ _ (c .before .before .before .before .before .before .before .before .loop .inv) _ _ _ _ _ _ _ (c .sweep .ensures)

@@ -9,7 +9,8 @@ use Rattle.judge_running.proofs.sweep.Statement.{statement}
 use Rattle.judge_running.proofs.sweep.Tie as tie
 
 abbrev Inv-loop : tie.InvT-loop
-Inv-loop sheet ahead same at₀ left₀ leave₀ enter₀ order₀ inside before made₀ turn₀ still₀ at left leave enter order made turn still = Sweeping (crossingOf sheet ahead) (givenOf sheet) at left leave enter order before made turn still
+Inv-loop sheet ahead same at₀ left₀ leave₀ enter₀ order₀ inside before made₀ turn₀ still₀ at left leave enter order made turn still = Sweeping
+    (crossingOf sheet ahead) (givenOf sheet) at left leave enter order before made turn still
 
 abbrev μ-loop : tie.MeasureT-loop
 μ-loop sheet ahead same at₀ left₀ leave₀ enter₀ order₀ inside before made₀ turn₀ still₀ at left leave enter order made turn still = turn
@@ -30,16 +31,36 @@ element-copy-out-may-enter : tie.Need-element-copy-out-may-enter Inv-loop μ-loo
 element-copy-out-may-enter c = search needs
 
 cast-may-enter : tie.Need-cast-may-enter Inv-loop μ-loop
-cast-may-enter c = omega (arith, c .before .before .before .lowest .ensures .0, stands-few _ _ _ _ _ _ _ _ _ (c .before .before .before .before .before .loop .inv .underway) (c .before .before .before .lowest .ensures .0))
+cast-may-enter c = omega (
+  arith,
+  c .before .before .before .lowest .ensures .0,
+  stands-few _ _ _ _ _ _ _ _ _
+      (c .before .before .before .before .before .loop .inv .underway) (c .before .before .before .lowest .ensures .0),
+)
 
 add-may-enter : tie.Need-add-may-enter Inv-loop μ-loop
-add-may-enter c = omega (arith, c .before .before .before .lowest .ensures .0, stands-few _ _ _ _ _ _ _ _ _ (c .before .before .before .before .before .loop .inv .underway) (c .before .before .before .lowest .ensures .0))
+add-may-enter c = omega (
+  arith,
+  c .before .before .before .lowest .ensures .0,
+  stands-few _ _ _ _ _ _ _ _ _
+      (c .before .before .before .before .before .loop .inv .underway) (c .before .before .before .lowest .ensures .0),
+)
 
 may-enter-requires : tie.Need-may-enter-requires Inv-loop μ-loop
-may-enter-requires c κs = stands-asked _ _ _ _ _ _ _ _ _ (c .before .before .before .before .before .loop .inv .underway) (c .before .before .before .lowest .ensures .0) (sweeping-wants _ _ _ _ _ _ _ _ _ _ _ (c .before .before .before .before .before .loop .inv) _ _ (steps-is _ _ _ _ (c .before .before .before .lowest .ensures .0)) (c .before .before .before .lowest .ensures .1))
+may-enter-requires c κs = stands-asked _ _ _ _ _ _ _ _ _ (c .before .before .before .before .before .loop .inv .underway)
+    (c .before .before .before .lowest .ensures .0) (sweeping-wants _ _ _ _ _ _ _ _ _ _ _ (c .before .before .before .before .before .loop .inv) _ _
+    (steps-is _ _ _ _ (c .before .before .before .lowest .ensures .0)) (c .before .before .before .lowest .ensures .1))
 
 advance-requires : tie.Need-advance-requires Inv-loop μ-loop
-advance-requires c κs = (c .before .before .before .before .before .before .before .before .before .before .before .before .loop .inv .underway, c .before .before .before .before .before .before .before .before .before .before .lowest .ensures .0, stands-may _ _ _ _ _ _ _ _ _ (c .before .before .before .before .before .before .before .before .before .before .before .before .loop .inv .underway) (c .before .before .before .before .before .before .before .before .before .before .lowest .ensures .0) (sweeping-wants _ _ _ _ _ _ _ _ _ _ _ (c .before .before .before .before .before .before .before .before .before .before .before .before .loop .inv) _ _ (steps-is _ _ _ _ (c .before .before .before .before .before .before .before .before .before .before .lowest .ensures .0)) (c .before .before .before .before .before .before .before .before .before .before .lowest .ensures .1)) _ (c .before .before .before .before .before .before .may-enter .ensures) .0 (c .before .before .before .before .before .if1 .taken), c .before .before .before .before .before .before .before .before .before .before .before .before .before .pre .2)
+advance-requires c κs = (
+  c .before .before .before .before .before .before .before .before .before .before .before .before .loop .inv .underway,
+  c .before .before .before .before .before .before .before .before .before .before .lowest .ensures .0,
+  stands-may _ _ _ _ _ _ _ _ _
+      (c .before .before .before .before .before .before .before .before .before .before .before .before .loop .inv .underway)
+      (c .before .before .before .before .before .before .before .before .before .before .lowest .ensures .0)
+      (sweeping-wants _ _ _ _ _ _ _ _ _ _ _ (c .before .before .before .before .before .before .before .before .before .before .before .before .loop .inv) _ _ (steps-is _ _ _ _ (c .before .before .before .before .before .before .before .before .before .before .lowest .ensures .0)) (c .before .before .before .before .before .before .before .before .before .before .lowest .ensures .1)) _ (c .before .before .before .before .before .before .may-enter .ensures) .0 (c .before .before .before .before .before .if1 .taken),
+  c .before .before .before .before .before .before .before .before .before .before .before .before .before .pre .2,
+)
 
 steps-requires : tie.Need-steps-requires Inv-loop μ-loop
 steps-requires c κs = search needs
@@ -48,7 +69,11 @@ element-copy-out-if2 : tie.Need-element-copy-out-if2 Inv-loop μ-loop
 element-copy-out-if2 c = search needs
 
 cast-if2 : tie.Need-cast-if2 Inv-loop μ-loop
-cast-if2 c = omega (arith, stands-few _ _ _ _ _ _ _ _ _ (c .before .before .advance .ensures .onward .underway) (c .before .before .before .before .before .before .before .before .before .before .before .before .before .lowest .ensures .0))
+cast-if2 c = omega (
+  arith,
+  stands-few _ _ _ _ _ _ _ _ _ (c .before .before .advance .ensures .onward .underway)
+      (c .before .before .before .before .before .before .before .before .before .before .before .before .before .lowest .ensures .0),
+)
 
 without-requires : tie.Need-without-requires Inv-loop μ-loop
 without-requires c κs = search needs
@@ -69,7 +94,19 @@ loop-less-3 : tie.Need-loop-less-3 Inv-loop μ-loop
 loop-less-3 c = c .before .before .before .before .rest .ensures .smaller
 
 loop-again-3 : tie.Need-loop-again-3 Inv-loop μ-loop
-loop-again-3 c = sweeping-held _ _ _ _ _ _ _ _ _ _ _ (c .before .before .before .before .before .before .before .loop .inv) _ _ (c .before .before .before .before .before .lowest .ensures .1) (c .before .before .before .before .rest .ensures) _ _ _ _ _ _ (stands-held _ _ _ _ _ _ _ _ _ (c .before .before .before .before .before .before .before .loop .inv .underway) (c .before .before .before .before .before .lowest .ensures .0) (sweeping-wants _ _ _ _ _ _ _ _ _ _ _ (c .before .before .before .before .before .before .before .loop .inv) _ _ (steps-is _ _ _ _ (c .before .before .before .before .before .lowest .ensures .0)) (c .before .before .before .before .before .lowest .ensures .1)) _ (c .before .may-enter .ensures) (c .if1 .left)) _ (steps-is _ _ _ _ (c .before .before .before .before .before .lowest .ensures .0)) (omega (arith, (sweeping-wants _ _ _ _ _ _ _ _ _ _ _ (c .before .before .before .before .before .before .before .loop .inv) _ _ (steps-is _ _ _ _ (c .before .before .before .before .before .lowest .ensures .0)) (c .before .before .before .before .before .lowest .ensures .1))))
+loop-again-3 c = sweeping-held _ _ _ _ _ _ _ _ _ _ _ (c .before .before .before .before .before .before .before .loop .inv) _ _
+    (c .before .before .before .before .before .lowest .ensures .1) (c .before .before .before .before .rest .ensures) _ _ _ _ _ _
+    (stands-held _ _ _ _ _ _ _ _ _ (c .before .before .before .before .before .before .before .loop .inv .underway)
+    (c .before .before .before .before .before .lowest .ensures .0) (sweeping-wants _ _ _ _ _ _ _ _ _ _ _
+    (c .before .before .before .before .before .before .before .loop .inv) _ _
+    (steps-is _ _ _ _ (c .before .before .before .before .before .lowest .ensures .0))
+    (c .before .before .before .before .before .lowest .ensures .1)) _ (c .before .may-enter .ensures) (c .if1 .left)) _
+    (steps-is _ _ _ _ (c .before .before .before .before .before .lowest .ensures .0))
+    (omega (
+      arith,
+      (sweeping-wants _ _ _ _ _ _ _ _ _ _ _ (c .before .before .before .before .before .before .before .loop .inv) _ _
+          (steps-is _ _ _ _ (c .before .before .before .before .before .lowest .ensures .0)) (c .before .before .before .before .before .lowest .ensures .1)),
+    ))
 
 returns : tie.Need-returns Inv-loop μ-loop
 returns c = sweeping-none _ _ _ _ _ _ _ _ _ _ _ (c .before .before .loop .inv) (c .before .loop-test .left) (c .if3 .taken)

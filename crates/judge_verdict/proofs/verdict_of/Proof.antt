@@ -1,3 +1,4 @@
+-- Where the carts have settled, the lowest that is stuck tells the verdict.
 use Rattle.judge_verdict.proofs.Stuck.{runs}
 use borrow.Author.Needs.{needs}
 use Rattle.judge_verdict.proofs.verdict_of.Statement.{statement}

@@ -16,10 +16,21 @@ returns : tie.Need-returns
 returns c = c .no-move .ensures ∙ ask-refused _ _ _ _ _ (c .before .before .before .before .read-tables .ensures) _ _ (c .before .if1 .taken)
 
 ask-plan-requires : tie.Need-ask-plan-requires
-ask-plan-requires c κs = record { zones = _; count = _; list = _; valid = valid-sheet _ _ _ _ _ (c .before .before .before .before .before .read-tables .ensures) (c .before .before .if1 .left); valid-orders = valid-orders _ _ _ _ _ (c .before .before .before .before .before .read-tables .ensures) (c .before .before .if1 .left) }
+ask-plan-requires c κs = record {
+  zones = _;
+  count = _;
+  list = _;
+  valid = valid-sheet _ _ _ _ _
+      (c .before .before .before .before .before .read-tables .ensures) (c .before .before .if1 .left);
+  valid-orders = valid-orders _ _ _ _ _
+      (c .before .before .before .before .before .read-tables .ensures) (c .before .before .if1 .left);
+}
 
 returns-2 : tie.Need-returns-2
-returns-2 c = c .ask-plan .ensures _ _ _ (valid-sheet _ _ _ _ _ (c .before .before .before .before .before .before .read-tables .ensures) (c .before .before .before .if1 .left)) (valid-orders _ _ _ _ _ (c .before .before .before .before .before .before .read-tables .ensures) (c .before .before .before .if1 .left)) ∙ ask-read _ _ _ _ _ (c .before .before .before .before .before .before .read-tables .ensures) _ _ (c .before .before .before .if1 .left)
+returns-2 c = c .ask-plan .ensures _ _ _ (valid-sheet _ _ _ _ _ (c .before .before .before .before .before .before .read-tables .ensures)
+    (c .before .before .before .if1 .left)) (valid-orders _ _ _ _ _ (c .before .before .before .before .before .before .read-tables .ensures)
+    (c .before .before .before .if1 .left)) ∙ ask-read _ _ _ _ _ (c .before .before .before .before .before .before .read-tables .ensures) _ _
+    (c .before .before .before .if1 .left)
 
 pub ask-spec : {M : Type 1} → statement M
 ask-spec =

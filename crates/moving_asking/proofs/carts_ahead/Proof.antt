@@ -31,7 +31,11 @@ mul-less-2 : tie.Need-mul-less-2
 mul-less-2 c = omega (arith, rw (← c .before .before .wide .ensures .0, ← c .before .zone .ensures) at (c .before .before .before .before .pre .known))
 
 element-copy-out-less-2 : tie.Need-element-copy-out-less-2
-element-copy-out-less-2 c = omega (arith, rw (← c .before .before .wide .ensures .0, ← c .before .zone .ensures) at (c .before .before .before .before .pre .known))
+element-copy-out-less-2 c = omega (
+  arith,
+  rw (← c .before .before .wide .ensures .0, ← c .before .zone .ensures) at
+      (c .before .before .before .before .pre .known),
+)
 
 less-requires : tie.Need-less-requires
 less-requires c κs = search needs
@@ -40,7 +44,8 @@ count-requires : tie.Need-count-requires
 count-requires c κs = search needs
 
 returns : tie.Need-returns
-returns c = c .count .ensures ∙ ones-passing 16 _ _ (omega (arith, c .before .less .ok)) (λ i _. rw (c .before .before .before .before .zone .ensures, c .before .before .before .before .before .wide .ensures .0) at (c .before .less .ensures i))
+returns c = c .count .ensures ∙ ones-passing 16 _ _ (omega (arith, c .before .less .ok))
+    (λ i _. rw (c .before .before .before .before .zone .ensures, c .before .before .before .before .before .wide .ensures .0) at (c .before .less .ensures i))
 
 pub carts-ahead-spec : {M : Type 1} → statement M
 carts-ahead-spec =

@@ -32,10 +32,16 @@ least-requires : tie.Need-least-requires Inv-loop μ-loop
 least-requires c κs = search needs
 
 in-turn-requires : tie.Need-in-turn-requires Inv-loop μ-loop
-in-turn-requires c κs = zones-known _ _ (c .before .before .before .before .before .before .pre) _ _ _ (c .before .before .before .before .loop-test .taken) (rw (c .before .before .wide .ensures .0, c .before .steps .ensures) at (c .least .ensures))
+in-turn-requires c κs = zones-known _ _ (c .before .before .before .before .before .before .pre) _ _ _
+    (c .before .before .before .before .loop-test .taken) (rw (c .before .before .wide .ensures .0, c .before .steps .ensures) at (c .least .ensures))
 
 returns : tie.Need-returns Inv-loop μ-loop
-returns c = (λ e. absurd (false≢true e), λ all. absurd (false≢true (sym (not-true _ (c .if1 .taken)) ∙ c .before .in-turn .ensures .1 (rw (c .before .before .least .ensures, c .before .before .before .before .wide .ensures .0, c .before .before .before .steps .ensures) (all _ (c .before .before .before .before .before .before .loop-test .taken))))))
+returns c = (
+  λ e. absurd (false≢true e),
+  λ all. absurd (false≢true (sym (not-true _ (c .if1 .taken)) ∙ c .before .in-turn .ensures .1
+      (rw (c .before .before .least .ensures, c .before .before .before .before .wide .ensures .0, c .before .before .before .steps .ensures)
+      (all _ (c .before .before .before .before .before .before .loop-test .taken))))),
+)
 
 add-c : tie.Need-add-c Inv-loop μ-loop
 add-c c = search needs
@@ -44,7 +50,17 @@ loop-less : tie.Need-loop-less Inv-loop μ-loop
 loop-less c = search needs
 
 loop-again : tie.Need-loop-again Inv-loop μ-loop
-loop-again c = (omega (arith, c .before .before .before .before .before .before .loop-test .taken), turns-next (parts.steps (c .before .before .before .before .before .before .before .before .args .sheet .now)) (parts.zone (c .before .before .before .before .before .before .before .before .args .sheet .now)) (c .before .before .before .before .before .before .before .before .args .ahead .now) (c .before .before .before .before .before .before .before .before .args .at .now) (c .before .before .before .before .before .before .before .before .args .left .now) _ _ (rw (c .before .before .before .before .wide .ensures .0, c .before .before .before .steps .ensures) at (c .before .before .least .ensures)) (c .before .before .before .before .before .before .before .loop .inv .1) (c .before .in-turn .ensures .0 (not-false _ (c .if1 .left))))
+loop-again c = (
+  omega (arith, c .before .before .before .before .before .before .loop-test .taken),
+  turns-next
+      (parts.steps (c .before .before .before .before .before .before .before .before .args .sheet .now))
+      (parts.zone (c .before .before .before .before .before .before .before .before .args .sheet .now))
+      (c .before .before .before .before .before .before .before .before .args .ahead .now)
+      (c .before .before .before .before .before .before .before .before .args .at .now)
+      (c .before .before .before .before .before .before .before .before .args .left .now) _ _
+      (rw (c .before .before .before .before .wide .ensures .0, c .before .before .before .steps .ensures) at (c .before .before .least .ensures))
+      (c .before .before .before .before .before .before .before .loop .inv .1) (c .before .in-turn .ensures .0 (not-false _ (c .if1 .left))),
+)
 
 returns-2 : tie.Need-returns-2 Inv-loop μ-loop
 returns-2 c = (λ _ d h. c .before .loop .inv .1 d (omega (arith, h, c .loop-test .left)), λ _. refl)

@@ -27,10 +27,17 @@ add-may-enter : tie.Need-add-may-enter Inv-loop μ-loop
 add-may-enter c = search needs
 
 may-enter-requires : tie.Need-may-enter-requires Inv-loop μ-loop
-may-enter-requires c κs = (omega (arith, c .before .before .pre .few, c .before .before .pre .cart, c .loop-test .taken), c .before .before .pre .known _ (c .loop-test .taken))
+may-enter-requires c κs = (
+  omega (arith, c .before .before .pre .few, c .before .before .pre .cart, c .loop-test .taken),
+  c .before .before .pre .known _ (c .loop-test .taken),
+)
 
 returns : tie.Need-returns Inv-loop μ-loop
-returns c = (λ e. absurd (false≢true e), λ all. absurd (false≢true (sym (not-true _ (c .if1 .taken)) ∙ c .before .may-enter .ensures .1 (all _ (c .before .before .loop-test .taken)))))
+returns c = (
+  λ e. absurd (false≢true e),
+  λ all. absurd (false≢true (sym (not-true _ (c .if1 .taken)) ∙ c .before .may-enter .ensures .1
+      (all _ (c .before .before .loop-test .taken)))),
+)
 
 add-j : tie.Need-add-j Inv-loop μ-loop
 add-j c = omega (arith, c .before .before .before .before .pre .few, c .before .before .loop-test .taken)
@@ -39,7 +46,13 @@ loop-less : tie.Need-loop-less Inv-loop μ-loop
 loop-less c = search needs
 
 loop-again : tie.Need-loop-again Inv-loop μ-loop
-loop-again c = (omega (arith, c .before .before .loop-test .taken), turn-next (parts.zone (c .before .before .before .before .args .sheet .now)) (c .before .before .before .before .args .ahead .now) (c .before .before .before .before .args .left .now) (c .before .before .before .before .args .c) (c .before .before .before .loop .j) (c .before .before .before .loop .inv .1) (c .before .may-enter .ensures .0 (not-false _ (c .if1 .left))))
+loop-again c = (
+  omega (arith, c .before .before .loop-test .taken),
+  turn-next (parts.zone (c .before .before .before .before .args .sheet .now))
+      (c .before .before .before .before .args .ahead .now) (c .before .before .before .before .args .left .now)
+      (c .before .before .before .before .args .c) (c .before .before .before .loop .j) (c .before .before .before .loop .inv .1)
+      (c .before .may-enter .ensures .0 (not-false _ (c .if1 .left))),
+)
 
 returns-2 : tie.Need-returns-2 Inv-loop μ-loop
 returns-2 c = (λ _ d h. c .before .loop .inv .1 d (omega (arith, h, c .loop-test .left)), λ _. refl)

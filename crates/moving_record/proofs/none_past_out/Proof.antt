@@ -1,6 +1,6 @@
+-- The loop keeps that no cart before c stands past out.
 use mathlib.Core.Path.{ap, refl}
 use Prim.Native.Nat.{_-_, _≤_}
--- The loop keeps that no cart before c stands past out.
 use mathlib.Core.Bool.{false≢true}
 use lib.ListN.{getD}
 use Rattle.routes.specs.Moves.{movesOf}
@@ -33,7 +33,17 @@ wide-requires : tie.Need-wide-requires Inv-loop μ-loop
 wide-requires c κs = search needs
 
 returns : tie.Need-returns Inv-loop μ-loop
-returns c = (λ e. absurd (false≢true e), λ all. absurd (omega (arith, all _ (c .before .before .before .before .before .loop-test .taken), c .if1 .taken, c .before .before .before .out-at .ensures, c .before .wide .ensures .0, ap movesOf (c .before .before .before .before .steps .ensures))))
+returns c = (
+  λ e. absurd (false≢true e),
+  λ all. absurd (omega (
+    arith,
+    all _ (c .before .before .before .before .before .loop-test .taken),
+    c .if1 .taken,
+    c .before .before .before .out-at .ensures,
+    c .before .wide .ensures .0,
+    ap movesOf (c .before .before .before .before .steps .ensures),
+  )),
+)
 
 add-c : tie.Need-add-c Inv-loop μ-loop
 add-c c = search needs
@@ -42,7 +52,21 @@ loop-less : tie.Need-loop-less Inv-loop μ-loop
 loop-less c = search needs
 
 loop-again : tie.Need-loop-again Inv-loop μ-loop
-loop-again c = let here : getD (c .before .before .before .before .before .before .before .args .at .now) (c .before .before .before .before .before .before .loop .c) 0 ≤ movesOf (getD (parts.steps (c .before .before .before .before .before .before .before .args .sheet .now)) (c .before .before .before .before .before .before .loop .c) 0) = omega (arith, c .if1 .left, c .before .before .before .out-at .ensures, c .before .wide .ensures .0, ap movesOf (c .before .before .before .before .steps .ensures)) in (omega (arith, c .before .before .before .before .before .loop-test .taken), none-next (parts.steps (c .before .before .before .before .before .before .before .args .sheet .now)) (c .before .before .before .before .before .before .before .args .at .now) _ (c .before .before .before .before .before .before .loop .inv .1) here)
+loop-again c = let here : getD (c .before .before .before .before .before .before .before .args .at .now)
+    (c .before .before .before .before .before .before .loop .c) 0 ≤ movesOf
+    (getD (parts.steps (c .before .before .before .before .before .before .before .args .sheet .now))
+    (c .before .before .before .before .before .before .loop .c) 0) = omega (
+      arith,
+      c .if1 .left,
+      c .before .before .before .out-at .ensures,
+      c .before .wide .ensures .0,
+      ap movesOf (c .before .before .before .before .steps .ensures),
+    ) in (
+      omega (arith, c .before .before .before .before .before .loop-test .taken),
+      none-next
+          (parts.steps (c .before .before .before .before .before .before .before .args .sheet .now))
+          (c .before .before .before .before .before .before .before .args .at .now) _ (c .before .before .before .before .before .before .loop .inv .1) here,
+    )
 
 returns-2 : tie.Need-returns-2 Inv-loop μ-loop
 returns-2 c = (λ _ d h. c .before .loop .inv .1 d (omega (arith, h, c .loop-test .left)), λ _. refl)

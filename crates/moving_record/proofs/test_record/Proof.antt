@@ -17,7 +17,8 @@ not-reached-requires : tie.Need-not-reached-requires
 not-reached-requires c κs = search needs
 
 returns : tie.Need-returns
-returns c = rw (c .not-reached .ensures) (past-out _ _ _ (c .before .before .before .before .before .pre) _ (search needs) (λ all. false≢true (sym (not-true _ (c .before .if1 .taken)) ∙ c .before .before .none-past-out .ensures .1 all)))
+returns c = rw (c .not-reached .ensures) (past-out _ _ _ (c .before .before .before .before .before .pre) _ (search needs)
+    (λ all. false≢true (sym (not-true _ (c .before .if1 .taken)) ∙ c .before .before .none-past-out .ensures .1 all)))
 
 cast-if2 : tie.Need-cast-if2
 cast-if2 c = search needs
@@ -26,19 +27,24 @@ slice-aggregate-sum-of : tie.Need-slice-aggregate-sum-of
 slice-aggregate-sum-of c = search needs
 
 sum-of-requires : tie.Need-sum-of-requires
-sum-of-requires c κs = let sized : length (c .before .before .before .before .before .before .args .lent .position) ≡ 16 = search needs in (omega arith, omega (arith, sized))
+sum-of-requires c κs = let sized : length (c .before .before .before .before .before .before .args .lent .position) ≡ 16 = search needs in
+    (omega arith, omega (arith, sized))
 
 not-reached-requires-2 : tie.Need-not-reached-requires-2
 not-reached-requires-2 c κs = search needs
 
 returns-2 : tie.Need-returns-2
-returns-2 c = rw (c .not-reached2 .ensures) (miscounted _ _ _ (c .before .before .before .before .before .before .before .before .before .pre) _ (search needs) _ (c .before .before .sum-of .ensures .0) (c .before .if2 .taken))
+returns-2 c = rw (c .not-reached2 .ensures) (miscounted _ _ _ (c .before .before .before .before .before .before .before .before .before .pre) _
+    (search needs) _ (c .before .before .sum-of .ensures .0) (c .before .if2 .taken))
 
 zones-left-requires : tie.Need-zones-left-requires
 zones-left-requires c κs = search needs
 
 who-visits-requires : tie.Need-who-visits-requires
-who-visits-requires c κs = gone-routes _ _ _ (c .before .before .before .before .before .before .before .before .before .before .before .pre) (c .before .before .before .before .before .before .before .before .before .before .before .args .lent .position) (c .before .before .before .before .before .before .before .before .none-past-out .ensures .0 (not-false _ (c .before .before .before .before .before .before .before .if1 .left))) _ (c .before .zones-left .ensures)
+who-visits-requires c κs = gone-routes _ _ _ (c .before .before .before .before .before .before .before .before .before .before .before .pre)
+    (c .before .before .before .before .before .before .before .before .before .before .before .args .lent .position)
+    (c .before .before .before .before .before .before .before .before .none-past-out .ensures .0
+    (not-false _ (c .before .before .before .before .before .before .before .if1 .left))) _ (c .before .zones-left .ensures)
 
 all-in-turn-requires : tie.Need-all-in-turn-requires
 all-in-turn-requires c κs = tables-routes _ _ _ (c .before .before .before .before .before .before .before .before .before .before .before .before .before .before .pre)

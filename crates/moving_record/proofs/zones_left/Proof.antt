@@ -34,7 +34,11 @@ loop-less : tie.Need-loop-less Inv-loop μ-loop
 loop-less c = search needs
 
 loop-again : tie.Need-loop-again Inv-loop μ-loop
-loop-again c = (omega (arith, c .before .before .loop-test .taken), table-next 16 _ _ _ _ (c .before .before .loop-test .taken) (c .one-less .ensures) (c .before .before .before .loop .inv .1))
+loop-again c = (
+  omega (arith, c .before .before .loop-test .taken),
+  table-next 16 _ _ _ _ (c .before .before .loop-test .taken)
+      (c .one-less .ensures) (c .before .before .before .loop .inv .1),
+)
 
 returns : tie.Need-returns Inv-loop μ-loop
 returns c = c .before .loop .inv .1 ∙ table-all 16 _ _ (omega (arith, c .before .loop .inv .0, c .loop-test .left))

@@ -31,7 +31,12 @@ refused-requires-2 c κs = search needs
 
 returns-2 : tie.Need-returns-2
 unfolding openingBy taking
-returns-2 c = rw (c .refused2 .ensures, sym (c .before .before .before .before .before .one-byte .ensures) ∙ c .before .before .before .version .given .1, ne-eqb _ _ (c .before .if1 .taken))
+returns-2 c = rw (
+  c .refused2 .ensures,
+  sym (c .before .before .before .before .before .one-byte .ensures) ∙
+      c .before .before .before .version .given .1,
+  ne-eqb _ _ (c .before .if1 .taken),
+)
 
 two-bytes-requires : tie.Need-two-bytes-requires
 two-bytes-requires c κs = search needs
@@ -47,7 +52,14 @@ refused-requires-3 c κs = search needs
 
 returns-3 : tie.Need-returns-3
 unfolding openingBy taking
-returns-3 c = rw (c .refused3 .ensures, sym (c .before .before .before .before .before .before .before .before .one-byte .ensures) ∙ c .before .before .before .before .before .before .version .given .1, eq-eqb _ _ (c .before .before .before .before .if1 .left), sym (c .before .before .before .two-bytes .ensures) ∙ c .before .enum-told2 .given .1)
+returns-3 c = rw (
+  c .refused3 .ensures,
+  sym (c .before .before .before .before .before .before .before .before .one-byte .ensures) ∙
+      c .before .before .before .before .before .before .version .given .1,
+  eq-eqb _ _ (c .before .before .before .before .if1 .left),
+  sym
+      (c .before .before .before .two-bytes .ensures) ∙ c .before .enum-told2 .given .1,
+)
 
 cast-if2 : tie.Need-cast-if2
 cast-if2 c = search needs
@@ -60,7 +72,16 @@ refused-requires-4 c κs = search needs
 
 returns-4 : tie.Need-returns-4
 unfolding openingBy taking
-returns-4 c = rw (c .refused4 .ensures, sym (c .before .before .before .before .before .before .before .before .before .before .one-byte .ensures) ∙ c .before .before .before .before .before .before .before .before .version .given .1, eq-eqb _ _ (c .before .before .before .before .before .before .if1 .left), sym (c .before .before .before .before .before .two-bytes .ensures) ∙ c .before .before .before .total .given .1, ne-eqb _ _ (c .before .if2 .taken))
+returns-4 c = rw (
+  c .refused4 .ensures,
+  sym (c .before .before .before .before .before .before .before .before .before .before .one-byte .ensures) ∙
+      c .before .before .before .before .before .before .before .before .version .given .1,
+  eq-eqb _ _
+      (c .before .before .before .before .before .before .if1 .left),
+  sym (c .before .before .before .before .before .two-bytes .ensures) ∙
+      c .before .before .before .total .given .1,
+  ne-eqb _ _ (c .before .if2 .taken),
+)
 
 one-byte-requires-2 : tie.Need-one-byte-requires-2
 one-byte-requires-2 c κs = search needs

@@ -17,11 +17,19 @@ within-requires c κs = search needs
 
 returns-2 : tie.Need-returns-2
 unfolding firstLate
-returns-2 c = rw (eq-eqb _ _ (c .before .before .if1 .left), some-left _ _ _ (c .before .before .before .fits .seen .fits) (c .before .within .ensures) ∙ ap not (c .if2 .taken))
+returns-2 c = rw (
+  eq-eqb _ _ (c .before .before .if1 .left),
+  some-left _ _ _ (c .before .before .before .fits .seen .fits)
+      (c .before .within .ensures) ∙ ap not (c .if2 .taken),
+)
 
 returns-3 : tie.Need-returns-3
 unfolding firstLate
-returns-3 c = rw (eq-eqb _ _ (c .before .before .if1 .left), some-left _ _ _ (c .before .before .before .fits .seen .fits) (c .before .within .ensures) ∙ ap not (c .if2 .left))
+returns-3 c = rw (
+  eq-eqb _ _ (c .before .before .if1 .left),
+  some-left _ _ _ (c .before .before .before .fits .seen .fits)
+      (c .before .within .ensures) ∙ ap not (c .if2 .left),
+)
 
 pub first-late-spec : {M : Type 1} → statement M
 first-late-spec = tie.close (tie.spec returns within-requires returns-2 returns-3)

@@ -53,7 +53,15 @@ loop-less : tie.Need-loop-less Inv-loop μ-loop
 loop-less c = omega arith
 
 loop-again : tie.Need-loop-again Inv-loop μ-loop
-loop-again c = (omega arith, rw (c .before .lane .ensures) (allowed-next _ _ _ (omega arith) _ (c .before .before .before .loop .inv .1) _ (omega (arith, c .before .before .before .before .pre (c .before .before .before .loop .i - 1))) (omega (arith, c .without .ok)) (rw (c .before .lane .ensures) at (c .without .ensures))), rw (c .before .lane .ensures) (leads-next _ _ _ (omega arith) _ (c .before .before .before .loop .inv .1) _ (omega (arith, c .before .before .before .before .pre (c .before .before .before .loop .i - 1))) (omega arith) (c .before .before .before .loop .inv .2)))
+loop-again c = (
+  omega arith,
+  rw (c .before .lane .ensures) (allowed-next _ _ _ (omega arith) _ (c .before .before .before .loop .inv .1) _
+      (omega (arith, c .before .before .before .before .pre (c .before .before .before .loop .i - 1))) (omega (arith, c .without .ok))
+      (rw (c .before .lane .ensures) at (c .without .ensures))),
+  rw (c .before .lane .ensures)
+      (leads-next _ _ _ (omega arith) _ (c .before .before .before .loop .inv .1) _
+      (omega (arith, c .before .before .before .before .pre (c .before .before .before .loop .i - 1))) (omega arith) (c .before .before .before .loop .inv .2)),
+)
 
 returns : tie.Need-returns Inv-loop μ-loop
 returns c = c .before .loop .inv .2 ∙ leads-all _ _ (omega arith)

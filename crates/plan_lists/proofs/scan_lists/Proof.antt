@@ -8,14 +8,17 @@ use Rattle.words.specs.Checks.{done}
 use Rattle.words.proofs.Left.{left-all}
 use Rattle.plan_lists.specs.inner.Scan.{noLists, cartsFrom, listsFrom}
 use Rattle.plan_lists.proofs.SetLaws.{with-is}
-use Rattle.plan_lists.proofs.ScanLaws.{lists-end, lists-refused, lists-count, carts-end, carts-refused, carts-next, count-value, count-refused, cart-value, cart-refused}
+use Rattle.plan_lists.proofs.ScanLaws.{lists-end, lists-refused, lists-count, carts-end, carts-refused, carts-next, count-value, count-refused}
+use Rattle.plan_lists.proofs.ScanLaws.{cart-value, cart-refused}
 use borrow.Author.Needs.{needs}
 use Rattle.plan_lists.proofs.scan_lists.Statement.{statement}
 use Rattle.plan_lists.proofs.scan_lists.Tie as tie
 
 abbrev Inv-loop : tie.InvT-loop
 Inv-loop p n who lead count list₀ before₀ late₀ at₀ outcome₀ z visitors k seen₀ e₀ list before late at outcome seen e =
-    (e ≤ k) × (outcome ≡ done) × (cartsFrom p visitors lead z k 0 0 (record { count = count; list = list₀; before = before₀; late = late₀ }) (record { at = at₀ }) (listsFrom p who lead (n - (z + 1)) (z + 1)) ≡ cartsFrom p visitors lead z (k - e) e seen (record { count = count; list = list; before = before; late = late }) (record { at = at }) (listsFrom p who lead (n - (z + 1)) (z + 1)))
+    (e ≤ k) × (outcome ≡ done) × (cartsFrom p visitors lead z k 0 0 (record { count = count; list = list₀; before = before₀; late = late₀ })
+    (record { at = at₀ }) (listsFrom p who lead (n - (z + 1)) (z + 1)) ≡ cartsFrom p visitors lead z (k - e) e seen
+    (record { count = count; list = list; before = before; late = late }) (record { at = at }) (listsFrom p who lead (n - (z + 1)) (z + 1)))
 
 abbrev μ-loop : tie.MeasureT-loop
 μ-loop p n who lead count list₀ before₀ late₀ at₀ outcome₀ z visitors k seen₀ e₀ list before late at outcome seen e =
@@ -23,7 +26,8 @@ abbrev μ-loop : tie.MeasureT-loop
 
 abbrev Inv-scan : tie.InvT-scan
 Inv-scan p n who lead count₀ list₀ before₀ late₀ at₀ outcome₀ z₀ count list before late at outcome z =
-    (z ≤ n) × (outcome ≡ done) × (listsFrom p who lead n 0 noLists (record { at = at₀ }) ≡ listsFrom p who lead (n - z) z (record { count = count; list = list; before = before; late = late }) (record { at = at }))
+    (z ≤ n) × (outcome ≡ done) × (listsFrom p who lead n 0 noLists (record { at = at₀ }) ≡ listsFrom p who lead (n - z) z
+    (record { count = count; list = list; before = before; late = late }) (record { at = at }))
 
 abbrev μ-scan : tie.MeasureT-scan
 μ-scan p n who lead count₀ list₀ before₀ late₀ at₀ outcome₀ z₀ count list before late at outcome z =
@@ -111,7 +115,15 @@ loop-less : tie.Need-loop-less Inv-loop μ-loop Inv-scan μ-scan
 loop-less c = search needs
 
 loop-again : tie.Need-loop-again Inv-loop μ-loop Inv-scan μ-scan
-loop-again c = (omega arith, c .before .before .before .before .before .before .before .before .loop .inv .1, rw (with-is _ _ _ (omega (arith, c .with .ok)) (c .with .ensures), c .before .first-late .ensures) (c .before .before .before .before .before .before .before .before .loop .inv .2 ∙ carts-next _ _ _ _ _ _ _ _ _ _ (c .before .before .before .before .before .before .before .loop-test .taken) _ _ (sym (c .before .before .before .before .before .before .take-cart .ensures) ∙ c .before .before .before .before .entry2 .given .1)))
+loop-again c = (
+  omega arith,
+  c .before .before .before .before .before .before .before .before .loop .inv .1,
+  rw
+      (with-is _ _ _ (omega (arith, c .with .ok)) (c .with .ensures), c .before .first-late .ensures)
+      (c .before .before .before .before .before .before .before .before .loop .inv .2 ∙ carts-next _ _ _ _ _ _ _ _ _ _
+      (c .before .before .before .before .before .before .before .loop-test .taken) _ _
+      (sym (c .before .before .before .before .before .before .take-cart .ensures) ∙ c .before .before .before .before .entry2 .given .1)),
+)
 
 add-z : tie.Need-add-z Inv-loop μ-loop Inv-scan μ-scan
 add-z c = search needs
@@ -120,16 +132,28 @@ scan-less : tie.Need-scan-less Inv-loop μ-loop Inv-scan μ-scan
 scan-less c = search needs
 
 scan-again : tie.Need-scan-again Inv-loop μ-loop Inv-scan μ-scan
-scan-again c = (omega arith, c .before .loop .inv .1, c .before .before .before .before .before .before .before .before .scan .inv .2 ∙ lists-count _ _ _ _ _ _ _ (c .before .before .before .before .before .before .before .scan-test .taken) _ _ (sym (c .before .before .before .before .before .take-count .ensures) ∙ c .before .before .before .head2 .given .1) ∙ c .before .loop .inv .2 ∙ carts-end _ _ _ _ _ _ _ _ _ _ (c .loop-test .left))
+scan-again c = (
+  omega arith,
+  c .before .loop .inv .1,
+  c .before .before .before .before .before .before .before .before .scan .inv .2 ∙ lists-count _
+      _ _ _ _ _ _ (c .before .before .before .before .before .before .before .scan-test .taken) _ _
+      (sym (c .before .before .before .before .before .take-count .ensures) ∙ c .before .before .before .head2 .given .1) ∙ c .before .loop .inv .2 ∙
+      carts-end _ _ _ _ _ _ _ _ _ _ (c .loop-test .left),
+)
 
 returns : tie.Need-returns Inv-loop μ-loop Inv-scan μ-scan
 returns c = inl (c .before .scan .inv .1, c .before .scan .inv .2 ∙ lists-end _ _ _ _ _ _ _ (c .scan-test .left))
 
 returns-2 : tie.Need-returns-2 Inv-loop μ-loop Inv-scan μ-scan
-returns-2 c = let e = sym (c .before .before .before .take-count .ensures) ∙ c .before .head .given .1 in inr (count-refused _ _ _ _ e, c .before .before .before .before .before .before .scan .inv .2 ∙ lists-refused _ _ _ _ _ _ _ (c .before .before .before .before .before .scan-test .taken) _ e)
+returns-2 c = let e = sym (c .before .before .before .take-count .ensures) ∙ c .before .head .given .1 in inr (
+  count-refused _ _ _ _ e,
+  c .before .before .before .before .before .before .scan .inv .2 ∙ lists-refused _ _ _ _ _ _ _
+      (c .before .before .before .before .before .scan-test .taken) _ e,
+)
 
 returns-3 : tie.Need-returns-3 Inv-loop μ-loop Inv-scan μ-scan
-returns-3 c = let e = sym (c .before .before .before .take-cart .ensures) ∙ c .before .entry .given .1 in inr (cart-refused _ _ _ (c .before .before .before .before .before .before .before .before .before .before .before .before .before .before .before .pre .1 (c .before .before .before .before .before .before .before .before .before .before .before .before .scan .z)) _ _ e, c .before .before .before .before .before .before .before .before .before .before .before .before .scan .inv .2 ∙ lists-count _ _ _ _ _ _ _ (c .before .before .before .before .before .before .before .before .before .before .before .scan-test .taken) _ _ (sym (c .before .before .before .before .before .before .before .before .before .take-count .ensures) ∙ c .before .before .before .before .before .before .before .head2 .given .1) ∙ c .before .before .before .before .before .loop .inv .2 ∙ carts-refused _ _ _ _ _ _ _ _ _ _ (c .before .before .before .before .loop-test .taken) _ e)
+returns-3 c = let e = sym (c .before .before .before .take-cart .ensures) ∙ c .before .entry .given .1 in inr
+    (cart-refused _ _ _ (c .before .before .before .before .before .before .before .before .before .before .before .before .before .before .before .pre .1 (c .before .before .before .before .before .before .before .before .before .before .before .before .scan .z)) _ _ e, c .before .before .before .before .before .before .before .before .before .before .before .before .scan .inv .2 ∙ lists-count _ _ _ _ _ _ _ (c .before .before .before .before .before .before .before .before .before .before .before .scan-test .taken) _ _ (sym (c .before .before .before .before .before .before .before .before .before .take-count .ensures) ∙ c .before .before .before .before .before .before .before .head2 .given .1) ∙ c .before .before .before .before .before .loop .inv .2 ∙ carts-refused _ _ _ _ _ _ _ _ _ _ (c .before .before .before .before .loop-test .taken) _ e)
 
 pub scan-lists-spec : {M : Type 1} → statement M
 scan-lists-spec =

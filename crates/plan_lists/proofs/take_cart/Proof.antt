@@ -29,7 +29,11 @@ refused-requires-2 c κs = search needs
 
 returns-2 : tie.Need-returns-2
 unfolding cartTaken taking
-returns-2 c = rw (c .refused2 .ensures, sym (c .before .before .before .before .before .one-byte .ensures) ∙ c .before .before .before .i .given .1, has-above 16 _ _ (c .before .before .before .before .before .before .before .fits .who .fits) (c .before .if1 .taken))
+returns-2 c = rw (
+  c .refused2 .ensures,
+  sym (c .before .before .before .before .before .one-byte .ensures) ∙ c .before .before .before .i .given .1,
+  has-above 16 _ _ (c .before .before .before .before .before .before .before .fits .who .fits) (c .before .if1 .taken),
+)
 
 less-requires : tie.Need-less-requires
 less-requires c κs = search needs
@@ -45,14 +49,25 @@ refused-requires-3 c κs = search needs
 
 returns-3 : tie.Need-returns-3
 unfolding cartTaken taking
-returns-3 c = rw (c .refused3 .ensures, sym (c .before .before .before .before .before .before .before .before .one-byte .ensures) ∙ c .before .before .before .before .before .before .i .given .1, sym (c .before .before .before .less .ensures _) ∙ sym (c .before .before .has .ensures) ∙ not-true _ (c .before .if2 .taken))
+returns-3 c = rw (
+  c .refused3 .ensures,
+  sym (c .before .before .before .before .before .before .before .before .one-byte .ensures) ∙
+      c .before .before .before .before .before .before .i .given .1,
+  sym (c .before .before .before .less .ensures _) ∙ sym
+      (c .before .before .has .ensures) ∙ not-true _ (c .before .if2 .taken),
+)
 
 cast-t15 : tie.Need-cast-t15
 cast-t15 c = search needs
 
 returns-4 : tie.Need-returns-4
 unfolding cartTaken taking
-returns-4 c = rw (sym (c .before .before .before .before .before .before .before .one-byte .ensures) ∙ c .before .before .before .before .before .i .given .1, sym (c .before .before .less .ensures _) ∙ sym (c .before .has .ensures) ∙ not-false _ (c .if2 .left))
+returns-4 c = rw (
+  sym (c .before .before .before .before .before .before .before .one-byte .ensures) ∙
+      c .before .before .before .before .before .i .given .1,
+  sym (c .before .before .less .ensures _) ∙ sym (c .before .has .ensures) ∙ not-false _
+      (c .if2 .left),
+)
 
 pub take-cart-spec : {M : Type 1} → statement M
 take-cart-spec =

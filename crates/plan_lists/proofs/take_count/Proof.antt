@@ -33,14 +33,25 @@ refused-requires-2 c κs = search needs
 
 returns-2 : tie.Need-returns-2
 unfolding countTaken taking
-returns-2 c = rw (c .refused2 .ensures, sym (c .before .before .before .before .before .before .one-byte .ensures) ∙ c .before .before .before .before .k .given .1, ← c .before .before .count .ensures, ne-eqb _ _ (c .before .if1 .taken))
+returns-2 c = rw (
+  c .refused2 .ensures,
+  sym (c .before .before .before .before .before .before .one-byte .ensures) ∙
+      c .before .before .before .before .k .given .1,
+  ← c .before .before .count .ensures,
+  ne-eqb _ _ (c .before .if1 .taken),
+)
 
 cast-t11 : tie.Need-cast-t11
 cast-t11 c = omega (arith, ones-le 16 _ (c .before .before .before .before .before .before .before .fits .who .fits), c .before .count .ensures, c .if1 .left)
 
 returns-3 : tie.Need-returns-3
 unfolding countTaken taking
-returns-3 c = rw (sym (c .before .before .before .before .before .one-byte .ensures) ∙ c .before .before .before .k .given .1, ← c .before .count .ensures, eq-eqb _ _ (c .if1 .left))
+returns-3 c = rw (
+  sym (c .before .before .before .before .before .one-byte .ensures) ∙ c .before .before .before .k .given .1,
+  ←
+      c .before .count .ensures,
+  eq-eqb _ _ (c .if1 .left),
+)
 
 pub take-count-spec : {M : Type 1} → statement M
 take-count-spec =

@@ -42,19 +42,39 @@ zone-requires : tie.Need-zone-requires Inv-loop2 μ-loop2 Inv-loop μ-loop
 zone-requires c κs = omega (arith, c .before .before .before .before .before .pre .few (c .before .before .before .before .loop .i))
 
 mul-with : tie.Need-mul-with Inv-loop2 μ-loop2 Inv-loop μ-loop
-mul-with c = omega (arith, c .before .before .before .before .before .before .pre .known (c .before .before .before .before .before .loop .i) (c .before .before .loop2 .j) (c .before .loop2-test .taken), c .zone .ensures)
+mul-with c = omega (
+  arith,
+  c .before .before .before .before .before .before .pre .known (c .before .before .before .before .before .loop .i)
+      (c .before .before .loop2 .j) (c .before .loop2-test .taken),
+  c .zone .ensures,
+)
 
 array-read-with : tie.Need-array-read-with Inv-loop2 μ-loop2 Inv-loop μ-loop
-array-read-with c = omega (arith, c .before .before .before .before .before .before .pre .known (c .before .before .before .before .before .loop .i) (c .before .before .loop2 .j) (c .before .loop2-test .taken), c .zone .ensures)
+array-read-with c = omega (
+  arith,
+  c .before .before .before .before .before .before .pre .known (c .before .before .before .before .before .loop .i)
+      (c .before .before .loop2 .j) (c .before .loop2-test .taken),
+  c .zone .ensures,
+)
 
 with-requires : tie.Need-with-requires Inv-loop2 μ-loop2 Inv-loop μ-loop
 with-requires c κs = omega arith
 
 mul-who : tie.Need-mul-who Inv-loop2 μ-loop2 Inv-loop μ-loop
-mul-who c = omega (arith, c .before .before .before .before .before .before .before .pre .known (c .before .before .before .before .before .before .loop .i) (c .before .before .before .loop2 .j) (c .before .before .loop2-test .taken), c .before .zone .ensures)
+mul-who c = omega (
+  arith,
+  c .before .before .before .before .before .before .before .pre .known
+      (c .before .before .before .before .before .before .loop .i) (c .before .before .before .loop2 .j) (c .before .before .loop2-test .taken),
+  c .before .zone .ensures,
+)
 
 array-write-who : tie.Need-array-write-who Inv-loop2 μ-loop2 Inv-loop μ-loop
-array-write-who c = omega (arith, c .before .before .before .before .before .before .before .pre .known (c .before .before .before .before .before .before .loop .i) (c .before .before .before .loop2 .j) (c .before .before .loop2-test .taken), c .before .zone .ensures)
+array-write-who c = omega (
+  arith,
+  c .before .before .before .before .before .before .before .pre .known
+      (c .before .before .before .before .before .before .loop .i) (c .before .before .before .loop2 .j) (c .before .before .loop2-test .taken),
+  c .before .zone .ensures,
+)
 
 add-j : tie.Need-add-j Inv-loop2 μ-loop2 Inv-loop μ-loop
 add-j c = omega (arith, c .before .before .before .before .before .before .before .pre .few (c .before .before .before .before .before .before .loop .i))
@@ -63,7 +83,13 @@ loop2-less : tie.Need-loop2-less Inv-loop2 μ-loop2 Inv-loop μ-loop
 loop2-less c = omega arith
 
 loop2-again : tie.Need-loop2-again Inv-loop2 μ-loop2 Inv-loop μ-loop
-loop2-again c = (omega arith, rw (c .before .zone .ensures) (walked-step _ _ _ _ _ _ (c .before .before .before .before .before .before .before .pre .known (c .before .before .before .before .before .before .loop .i) (c .before .before .before .loop2 .j) (c .before .before .loop2-test .taken)) (omega (arith, c .with .ok)) (c .before .before .before .loop2 .inv .1) (rw (c .before .zone .ensures) at (c .with .ensures))))
+loop2-again c = (
+  omega arith,
+  rw (c .before .zone .ensures) (walked-step _ _ _ _ _ _
+      (c .before .before .before .before .before .before .before .pre .known (c .before .before .before .before .before .before .loop .i)
+      (c .before .before .before .loop2 .j) (c .before .before .loop2-test .taken)) (omega (arith, c .with .ok))
+      (c .before .before .before .loop2 .inv .1) (rw (c .before .zone .ensures) at (c .with .ensures))),
+)
 
 add-i : tie.Need-add-i Inv-loop2 μ-loop2 Inv-loop μ-loop
 add-i c = omega arith

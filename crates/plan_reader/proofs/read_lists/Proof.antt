@@ -20,24 +20,57 @@ may-lead-requires : tie.Need-may-lead-requires
 may-lead-requires c κs = c .before .before .before .before .pre .0 .lanes
 
 scan-lists-requires : tie.Need-scan-lists-requires
-scan-lists-requires c κs = (c .before .before .before .before .before .before .before .before .before .before .pre .0 .zones-most, rw (c .before .before .before .before .before .before .who-visits .ensures) (visits-sets _ _), (c .before .before .before .before .before .before .before .before .before .before .pre .1 .0, c .before .before .before .before .before .before .before .before .before .before .pre .1 .1, refl))
+scan-lists-requires c κs = (
+  c .before .before .before .before .before .before .before .before .before .before .pre .0 .zones-most,
+  rw
+      (c .before .before .before .before .before .before .who-visits .ensures) (visits-sets _ _),
+  (
+    c .before .before .before .before .before .before .before .before .before .before .pre .1 .0,
+    c .before .before .before .before .before .before .before .before .before .before .pre .1 .1,
+    refl,
+  ),
+)
 
 returns : tie.Need-returns
-returns c = inr (omega (arith, c .if1 .taken), lists-refused _ _ _ _ _ _ _ _ _ _ _ _ (rw (c .before .before .before .before .before .before .before .before .before .before .before .before .step-counts .ensures) at (c .before .before .before .before .before .before .before .before .before .before .who-visits .ensures)) (c .before .before .before .before .before .before .before .before .before .may-lead .ensures) (c .before .before .before .scan-lists .ensures) (c .if1 .taken))
+returns c = inr (
+  omega (arith, c .if1 .taken),
+  lists-refused _ _ _ _ _ _ _ _ _ _ _ _
+      (rw (c .before .before .before .before .before .before .before .before .before .before .before .before .step-counts .ensures) at
+      (c .before .before .before .before .before .before .before .before .before .before .who-visits .ensures))
+      (c .before .before .before .before .before .before .before .before .before .may-lead .ensures) (c .before .before .before .scan-lists .ensures)
+      (c .if1 .taken),
+)
 
 refused-requires : tie.Need-refused-requires
 refused-requires c κs = search needs
 
 returns-2 : tie.Need-returns-2
 unfolding finish
-returns-2 c = inr (rw (c .refused .ensures) (omega arith), rw (c .refused .ensures, lists-read _ _ _ _ _ _ _ _ _ _ _ _ (rw (c .before .before .before .before .before .before .before .before .before .before .before .before .before .before .before .step-counts .ensures) at (c .before .before .before .before .before .before .before .before .before .before .before .before .before .who-visits .ensures)) (c .before .before .before .before .before .before .before .before .before .before .before .before .may-lead .ensures) (c .before .before .before .before .before .before .scan-lists .ensures) (c .before .before .before .if1 .left), ne-eqb _ _ (c .before .if2 .taken)))
+returns-2 c = inr (
+  rw (c .refused .ensures) (omega arith),
+  rw (
+    c .refused .ensures,
+    lists-read _ _ _ _ _ _ _ _ _ _ _ _
+        (rw (c .before .before .before .before .before .before .before .before .before .before .before .before .before .before .before .step-counts .ensures) at (c .before .before .before .before .before .before .before .before .before .before .before .before .before .who-visits .ensures)) (c .before .before .before .before .before .before .before .before .before .before .before .before .may-lead .ensures) (c .before .before .before .before .before .before .scan-lists .ensures) (c .before .before .before .if1 .left),
+    ne-eqb _ _ (c .before .if2 .taken),
+  ),
+)
 
 refused-requires-2 : tie.Need-refused-requires-2
 refused-requires-2 c κs = search needs
 
 returns-3 : tie.Need-returns-3
 unfolding finish
-returns-3 c = inr (rw (c .refused2 .ensures) (omega arith), rw (c .refused2 .ensures, lists-read _ _ _ _ _ _ _ _ _ _ _ _ (rw (c .before .before .before .before .before .before .before .before .before .before .before .before .before .before .before .before .before .step-counts .ensures) at (c .before .before .before .before .before .before .before .before .before .before .before .before .before .before .before .who-visits .ensures)) (c .before .before .before .before .before .before .before .before .before .before .before .before .before .before .may-lead .ensures) (c .before .before .before .before .before .before .before .before .scan-lists .ensures) (c .before .before .before .before .before .if1 .left), eq-eqb _ _ (c .before .before .before .if2 .left), ne-eqb _ _ (c .before .if3 .taken)))
+returns-3 c = inr (
+  rw (c .refused2 .ensures) (omega arith),
+  rw (
+    c .refused2 .ensures,
+    lists-read _ _ _ _ _ _ _ _ _ _ _ _
+        (rw (c .before .before .before .before .before .before .before .before .before .before .before .before .before .before .before .before .before .step-counts .ensures) at (c .before .before .before .before .before .before .before .before .before .before .before .before .before .before .before .who-visits .ensures)) (c .before .before .before .before .before .before .before .before .before .before .before .before .before .before .may-lead .ensures) (c .before .before .before .before .before .before .before .before .scan-lists .ensures) (c .before .before .before .before .before .if1 .left),
+    eq-eqb _ _ (c .before .before .before .if2 .left),
+    ne-eqb _ _ (c .before .if3 .taken),
+  ),
+)
 
 ahead-of-requires : tie.Need-ahead-of-requires
 ahead-of-requires c κs = (c .before .before .before .before .before .before .before .before .before .before .before .before .before .before .before .before .before .before .before .before .pre .0 .routes, c .before .before .before .before .before .before .before .before .before .before .before .before .before .before .before .before .before .before .before .before .pre .1 .2)
@@ -47,7 +80,16 @@ done-requires c κs = search needs
 
 returns-4 : tie.Need-returns-4
 unfolding finish
-returns-4 c = inl (c .done .ensures, rw (lists-read _ _ _ _ _ _ _ _ _ _ _ _ (rw (c .before .before .before .before .before .before .before .before .before .before .before .before .before .before .before .before .before .before .before .before .step-counts .ensures) at (c .before .before .before .before .before .before .before .before .before .before .before .before .before .before .before .before .before .before .who-visits .ensures)) (c .before .before .before .before .before .before .before .before .before .before .before .before .before .before .before .before .before .may-lead .ensures) (c .before .before .before .before .before .before .before .before .before .before .before .scan-lists .ensures) (c .before .before .before .before .before .before .before .before .if1 .left), eq-eqb _ _ (c .before .before .before .before .before .before .if2 .left), eq-eqb _ _ (c .before .before .before .before .if3 .left), c .before .ahead-of .ensures))
+returns-4 c = inl (
+  c .done .ensures,
+  rw (
+    lists-read _ _ _ _ _ _ _ _ _ _ _ _ (rw
+        (c .before .before .before .before .before .before .before .before .before .before .before .before .before .before .before .before .before .before .before .before .step-counts .ensures) at (c .before .before .before .before .before .before .before .before .before .before .before .before .before .before .before .before .before .before .who-visits .ensures)) (c .before .before .before .before .before .before .before .before .before .before .before .before .before .before .before .before .before .may-lead .ensures) (c .before .before .before .before .before .before .before .before .before .before .before .scan-lists .ensures) (c .before .before .before .before .before .before .before .before .if1 .left),
+    eq-eqb _ _ (c .before .before .before .before .before .before .if2 .left),
+    eq-eqb _ _ (c .before .before .before .before .if3 .left),
+    c .before .ahead-of .ensures,
+  ),
+)
 
 pub read-lists-spec : {M : Type 1} → statement M
 read-lists-spec =

@@ -27,7 +27,8 @@ returns c = let e = sym (c .before .before .before .read-opening .ensures) ∙ c
 
 returns-2 : tie.Need-returns-2
 unfolding scan
-returns-2 c = left-whole Refuses (rw (sym (c .before .before .before .before .before .before .before .read-opening .ensures) ∙ c .before .before .before .before .before .opening2 .given .1)) (c .read-lists .ensures)
+returns-2 c = left-whole Refuses (rw (sym (c .before .before .before .before .before .before .before .read-opening .ensures) ∙
+    c .before .before .before .before .before .opening2 .given .1)) (c .read-lists .ensures)
 
 pub read-orders-spec : {M : Type 1} → statement M
 read-orders-spec =

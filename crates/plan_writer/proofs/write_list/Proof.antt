@@ -12,7 +12,8 @@ use Rattle.plan_writer.proofs.write_list.Tie as tie
 
 abbrev Inv-loop : tie.InvT-loop
 Inv-loop count list z room₀ at n k₀ room k =
-    (k ≤ n) × (length room ≡ length room₀) × (sets room₀ (at + 1) (each n 0 (λ e. bytesOf 1 (getD list (16 * z + e) 0))) ≡ sets room (at + 1 + k) (each (n - k) k (λ e. bytesOf 1 (getD list (16 * z + e) 0))))
+    (k ≤ n) × (length room ≡ length room₀) × (sets room₀ (at + 1) (each n 0 (λ e. bytesOf 1 (getD list (16 * z + e) 0))) ≡ sets room (at + 1 + k)
+    (each (n - k) k (λ e. bytesOf 1 (getD list (16 * z + e) 0))))
 
 abbrev μ-loop : tie.MeasureT-loop
 μ-loop count list z room₀ at n k₀ room k = n - k
@@ -48,7 +49,13 @@ add-room-3 : tie.Need-add-room-3 Inv-loop μ-loop
 add-room-3 c = omega (arith, c .before .before .before .before .before .pre .1 .few)
 
 slice-write-room-2 : tie.Need-slice-write-room-2 Inv-loop μ-loop
-slice-write-room-2 c = omega (arith, c .before .before .loop .inv .1, length-set (c .before .before .before .before .before .args .room .now) (c .before .before .before .before .before .args .at) (getD (c .before .before .before .before .before .args .count .now) (c .before .before .before .before .before .args .z) 0))
+slice-write-room-2 c = omega (
+  arith,
+  c .before .before .loop .inv .1,
+  length-set (c .before .before .before .before .before .args .room .now)
+      (c .before .before .before .before .before .args .at) (getD (c .before .before .before .before .before .args .count .now)
+      (c .before .before .before .before .before .args .z) 0),
+)
 
 add-k : tie.Need-add-k Inv-loop μ-loop
 add-k c = omega (arith, c .before .before .before .before .before .pre .1 .few)
@@ -57,7 +64,14 @@ loop-less : tie.Need-loop-less Inv-loop μ-loop
 loop-less c = omega arith
 
 loop-again : tie.Need-loop-again Inv-loop μ-loop
-loop-again c = (omega arith, simp length-set (c .before .before .loop .inv .1 ∙ length-set (c .before .before .before .before .before .args .room .now) (c .before .before .before .before .before .args .at) (getD (c .before .before .before .before .before .args .count .now) (c .before .before .before .before .before .args .z) 0)), c .before .before .loop .inv .2 ∙ store-turn _ _ _ _ _ (c .before .loop-test .taken) (c .before .before .before .before .before .pre .1 .byte (c .before .before .loop .k) (c .before .loop-test .taken)))
+loop-again c = (
+  omega arith,
+  simp length-set (c .before .before .loop .inv .1 ∙ length-set
+      (c .before .before .before .before .before .args .room .now) (c .before .before .before .before .before .args .at)
+      (getD (c .before .before .before .before .before .args .count .now) (c .before .before .before .before .before .args .z) 0)),
+  c .before .before .loop .inv .2 ∙ store-turn _ _ _ _ _ (c .before .loop-test .taken)
+      (c .before .before .before .before .before .pre .1 .byte (c .before .before .loop .k) (c .before .loop-test .taken)),
+)
 
 add-result : tie.Need-add-result Inv-loop μ-loop
 add-result c = omega (arith, c .before .before .before .before .pre .1 .few)
@@ -66,7 +80,12 @@ add-result-2 : tie.Need-add-result-2 Inv-loop μ-loop
 add-result-2 c = omega (arith, c .before .before .before .before .pre .1 .few)
 
 same-length : tie.Need-same-length Inv-loop μ-loop
-same-length c = omega (arith, c .before .loop .inv .1, length-set (c .before .before .before .before .args .room .now) (c .before .before .before .before .args .at) (getD (c .before .before .before .before .args .count .now) (c .before .before .before .before .args .z) 0))
+same-length c = omega (
+  arith,
+  c .before .loop .inv .1,
+  length-set (c .before .before .before .before .args .room .now)
+      (c .before .before .before .before .args .at) (getD (c .before .before .before .before .args .count .now) (c .before .before .before .before .args .z) 0),
+)
 
 returns : tie.Need-returns Inv-loop μ-loop
 returns c = (refl, store-list _ _ _ _ _ (c .before .loop .k) (c .before .before .before .before .pre .1 .few) (c .loop-test .left) (c .before .loop .inv .2))

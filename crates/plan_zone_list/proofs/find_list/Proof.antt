@@ -12,7 +12,8 @@ not-found-requires : tie.Need-not-found-requires
 not-found-requires c κs = search needs
 
 returns : tie.Need-returns
-returns c = rw (c .not-found .ensures) (list-refused _ _ (c .before .before .before .before .before .before .before .args .zone) (c .before .before .before .before .read-plan .result) (c .before .before .before .before .read-plan .ensures) (c .before .if1 .taken))
+returns c = rw (c .not-found .ensures) (list-refused _ _ (c .before .before .before .before .before .before .before .args .zone)
+    (c .before .before .before .before .read-plan .result) (c .before .before .before .before .read-plan .ensures) (c .before .if1 .taken))
 
 refused-requires : tie.Need-refused-requires
 refused-requires c κs = search needs
@@ -21,7 +22,11 @@ not-found-requires-2 : tie.Need-not-found-requires-2
 not-found-requires-2 c κs = search needs
 
 returns-2 : tie.Need-returns-2
-returns-2 c = rw (c .not-found2 .ensures, c .before .refused .ensures) (list-unknown _ _ (c .before .before .before .before .before .before .before .before .before .before .before .args .zone) (c .before .before .before .before .before .before .before .before .read-plan .result) (c .before .before .before .before .before .before .before .before .read-plan .ensures) (c .before .before .before .before .before .if1 .left) (c .before .before .if2 .taken))
+returns-2 c = rw (c .not-found2 .ensures, c .before .refused .ensures) (list-unknown _ _
+    (c .before .before .before .before .before .before .before .before .before .before .before .args .zone)
+    (c .before .before .before .before .before .before .before .before .read-plan .result)
+    (c .before .before .before .before .before .before .before .before .read-plan .ensures) (c .before .before .before .before .before .if1 .left)
+    (c .before .before .if2 .taken))
 
 slice-aggregate-sum-of : tie.Need-slice-aggregate-sum-of
 slice-aggregate-sum-of c = search needs
@@ -42,7 +47,10 @@ cast-t19 : tie.Need-cast-t19
 cast-t19 c = omega (arith, list-few _ _ (c .before .before .before .before .before .before .before .before .before .before .before .before .before .args .zone) (c .before .before .before .before .before .before .before .before .before .before .read-plan .result) (c .before .before .before .before .before .before .before .before .before .before .read-plan .ensures) (c .before .before .before .before .before .before .before .if1 .left) (c .before .before .before .before .if2 .left))
 
 returns-3 : tie.Need-returns-3
-returns-3 c = list-found _ _ (c .before .before .before .before .before .before .before .before .before .before .before .before .before .args .zone) (c .before .before .before .before .before .before .before .before .before .before .read-plan .result) (c .before .before .before .before .before .before .before .before .before .before .read-plan .ensures) (c .before .before .before .before .before .before .before .if1 .left) (c .before .before .before .before .if2 .left) _ (c .sum-of .ensures .0)
+returns-3 c = list-found _ _ (c .before .before .before .before .before .before .before .before .before .before .before .before .before .args .zone)
+    (c .before .before .before .before .before .before .before .before .before .before .read-plan .result)
+    (c .before .before .before .before .before .before .before .before .before .before .read-plan .ensures)
+    (c .before .before .before .before .before .before .before .if1 .left) (c .before .before .before .before .if2 .left) _ (c .sum-of .ensures .0)
 
 pub find-list-spec : {M : Type 1} → statement M
 find-list-spec =

@@ -12,7 +12,8 @@ use Rattle.planner_costs.proofs.largest_cost.Statement.{statement}
 use Rattle.planner_costs.proofs.largest_cost.Tie as tie
 
 abbrev Inv-loop : tie.InvT-loop
-Inv-loop sheet rank visit undecided enter spare best₀ x₀ best x = (x ≤ 128) × ChosenBelow (tablesOf (parts.zone sheet) (parts.cross sheet) (parts.passing sheet) rank visit undecided enter spare) x best
+Inv-loop sheet rank visit undecided enter spare best₀ x₀ best x = (x ≤ 128) × ChosenBelow
+    (tablesOf (parts.zone sheet) (parts.cross sheet) (parts.passing sheet) rank visit undecided enter spare) x best
 
 abbrev μ-loop : tie.MeasureT-loop
 μ-loop sheet rank visit undecided enter spare best₀ x₀ best x = 128 - x
@@ -27,7 +28,12 @@ element-copy-out-if1 : tie.Need-element-copy-out-if1 Inv-loop μ-loop
 element-copy-out-if1 c = search needs
 
 largest-at-requires : tie.Need-largest-at-requires Inv-loop μ-loop
-largest-at-requires c κs = record { in-range = c .before .before .before .before .pre; is-step = c .before .before .loop-test .taken; so-far = c .before .before .before .loop .inv .1 }
+largest-at-requires c κs = record {
+  in-range = c .before .before .before .before .pre;
+  is-step = c .before .before .loop-test .taken;
+  so-far =
+      c .before .before .before .loop .inv .1;
+}
 
 add-x : tie.Need-add-x Inv-loop μ-loop
 add-x c = search needs
@@ -36,7 +42,11 @@ loop-less : tie.Need-loop-less Inv-loop μ-loop
 loop-less c = search needs
 
 loop-again : tie.Need-loop-again Inv-loop μ-loop
-loop-again c = (omega arith, ⊎-elim (λ w. rw (w .2) (w .1 .ensures)) (λ w. rw (w .1) (scan-skip _ _ (w .0 .left) _ (c .before .before .before .loop .inv .1))) (c .if1 .came))
+loop-again c = (
+  omega arith,
+  ⊎-elim (λ w. rw (w .2) (w .1 .ensures)) (λ w. rw (w .1)
+      (scan-skip _ _ (w .0 .left) _ (c .before .before .before .loop .inv .1))) (c .if1 .came),
+)
 
 returns : tie.Need-returns Inv-loop μ-loop
 returns c = let end : c .before .loop .x ≡ 128 = omega arith in rw end at (c .before .loop .inv .1)

@@ -11,7 +11,8 @@ zone-requires-2 : tie.Need-zone-requires-2
 zone-requires-2 c κs = search needs
 
 returns : tie.Need-returns
-returns c = rw (c .before .before .zone .ensures, c .before .zone2 .ensures) (tie-zone _ _ _ _ _ _ (rw (c .before .before .zone .ensures, c .before .zone2 .ensures) at (c .if1 .taken)))
+returns c = rw (c .before .before .zone .ensures, c .before .zone2 .ensures)
+    (tie-zone _ _ _ _ _ _ (rw (c .before .before .zone .ensures, c .before .zone2 .ensures) at (c .if1 .taken)))
 
 element-copy-out-if2 : tie.Need-element-copy-out-if2
 element-copy-out-if2 c = search needs
@@ -26,7 +27,11 @@ element-copy-out-result-2 : tie.Need-element-copy-out-result-2
 element-copy-out-result-2 c = search needs
 
 returns-2 : tie.Need-returns-2
-returns-2 c = tie-first _ _ _ _ _ _ (rw (c .before .before .before .before .before .before .before .zone .ensures, c .before .before .before .before .before .before .zone2 .ensures) at (c .before .before .before .before .before .if1 .left)) (c .before .before .if2 .taken)
+returns-2 c = tie-first _ _ _ _ _ _ (rw (
+  c .before .before .before .before .before .before .before .zone .ensures,
+  c .before .before .before .before .before .before .zone2 .ensures,
+) at (c .before .before .before .before .before .if1 .left))
+    (c .before .before .if2 .taken)
 
 element-copy-out-result-3 : tie.Need-element-copy-out-result-3
 element-copy-out-result-3 c = search needs
@@ -35,7 +40,10 @@ element-copy-out-result-4 : tie.Need-element-copy-out-result-4
 element-copy-out-result-4 c = search needs
 
 returns-3 : tie.Need-returns-3
-returns-3 c = tie-second _ _ _ _ _ _ (rw (c .before .before .before .before .before .before .before .zone .ensures, c .before .before .before .before .before .before .zone2 .ensures) at (c .before .before .before .before .before .if1 .left)) (c .before .before .if2 .left)
+returns-3 c = tie-second _ _ _ _ _ _ (rw (
+  c .before .before .before .before .before .before .before .zone .ensures,
+  c .before .before .before .before .before .before .zone2 .ensures,
+) at (c .before .before .before .before .before .if1 .left)) (c .before .before .if2 .left)
 
 pub wins-tie-spec : {M : Type 1} → statement M
 wins-tie-spec =

@@ -40,7 +40,8 @@ loop-again c =
     let so-far = c .before .before .before .before .loop .inv .1 in (
       omega arith,
       ⊎-elim
-          (λ w. w .2 ∙ least-more (c .before .before .before .before .before .args .ranks .now) _ _ _ _ so-far (c .before .wide .ensures .0) _ (w .0 .taken) (w .1 .ensures))
+          (λ w. w .2 ∙ least-more (c .before .before .before .before .before .args .ranks .now) _ _ _ _ so-far (c .before .wide .ensures .0) _
+          (w .0 .taken) (w .1 .ensures))
           (λ w. w .1 ∙ least-skip (c .before .before .before .before .before .args .ranks .now) _ _ _ _ so-far (c .before .wide .ensures .0) (w .0 .left))
           (c .if1 .came),
     )

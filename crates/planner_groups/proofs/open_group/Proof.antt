@@ -8,7 +8,8 @@ use Rattle.planner_groups.proofs.open_group.Statement.{statement}
 use Rattle.planner_groups.proofs.open_group.Tie as tie
 
 abbrev Inv-loop : tie.InvT-loop
-Inv-loop ranks pairs ahead₀ behind₀ undecided₀ low high above within x₀ ahead behind undecided x = (x ≤ 128) × JoinedTo above within pairs x ahead₀ ahead × JoinedTo within above pairs x behind₀ behind × JoinedTo within within pairs x undecided₀ undecided
+Inv-loop ranks pairs ahead₀ behind₀ undecided₀ low high above within x₀ ahead behind undecided x = (x ≤ 128) × JoinedTo above within pairs x ahead₀
+    ahead × JoinedTo within above pairs x behind₀ behind × JoinedTo within within pairs x undecided₀ undecided
 
 abbrev μ-loop : tie.MeasureT-loop
 μ-loop ranks pairs ahead₀ behind₀ undecided₀ low high above within x₀ ahead behind undecided x = 128 - x
@@ -103,15 +104,19 @@ loop-less c = omega arith
 loop-again : tie.Need-loop-again Inv-loop μ-loop
 loop-again c = (
   omega arith,
-  joined-next _ _ _ _ _ _ _ (c .before .before .before .before .before .before .before .before .before .before .before .before .loop .inv .1) (rw (c .before .before .before .before .before .before .before .has2 .ensures) at (c .before .before .before .before .before .before .joined .ensures)),
-  joined-next _ _ _ _ _ _ _ (c .before .before .before .before .before .before .before .before .before .before .before .before .loop .inv .2) (rw (c .before .before .before .before .before .before .before .before .before .before .has .ensures) at (c .before .before .before .joined2 .ensures)),
-  joined-next _ _ _ _ _ _ _ (c .before .before .before .before .before .before .before .before .before .before .before .before .loop .inv .3) (rw (c .before .before .before .before .before .before .before .before .before .before .has .ensures) at (c .joined3 .ensures)),
+  joined-next _ _ _ _ _ _ _ (c .before .before .before .before .before .before .before .before .before .before .before .before .loop .inv .1)
+      (rw (c .before .before .before .before .before .before .before .has2 .ensures) at (c .before .before .before .before .before .before .joined .ensures)),
+  joined-next _ _ _ _ _ _ _ (c .before .before .before .before .before .before .before .before .before .before .before .before .loop .inv .2)
+      (rw (c .before .before .before .before .before .before .before .before .before .before .has .ensures) at (c .before .before .before .joined2 .ensures)),
+  joined-next _ _ _ _ _ _ _ (c .before .before .before .before .before .before .before .before .before .before .before .before .loop .inv .3)
+      (rw (c .before .before .before .before .before .before .before .before .before .before .has .ensures) at (c .joined3 .ensures)),
 )
 
 returns : tie.Need-returns Inv-loop μ-loop
 returns c =
     let ends : c .before .loop .x ≡ 128 = omega arith in
-    opens _ _ _ _ _ _ _ (c .before .before .before .at-least2 .ensures) (c .before .before .before .before .at-least .ensures) (c .before .before .less .ensures) _ _ _ _ _ _
+    opens _ _ _ _ _ _ _ (c .before .before .before .at-least2 .ensures) (c .before .before .before .before .at-least .ensures)
+    (c .before .before .less .ensures) _ _ _ _ _ _
     (rw ends at (c .before .loop .inv .1)) (rw ends at (c .before .loop .inv .2)) (rw ends at (c .before .loop .inv .3))
 
 pub open-group-spec : {M : Type 1} → statement M

@@ -72,13 +72,19 @@ loop-less c = omega arith
 
 loop-again : tie.Need-loop-again Inv-loop μ-loop
 loop-again c =
-    let new = parted _ _ _ _ _ _ _ _ _ (c .before .before .before .before .before .less .ensures) (c .before .before .before .before .less2 .ensures) (c .before .before .before .lower .ensures) (c .before .before .less3 .ensures) (c .before .less4 .ensures) (c .without .ensures) in
-    (omega arith, started-next _ _ _ _ _ _ _ _ _ _ _ (c .before .before .before .before .before .before .before .loop-test .taken) (c .before .before .before .before .before .before .visiting .ensures) (c .before .before .before .before .before .before .before .before .loop .inv .1) new)
+    let new = parted _ _ _ _ _ _ _ _ _ (c .before .before .before .before .before .less .ensures) (c .before .before .before .before .less2 .ensures)
+    (c .before .before .before .lower .ensures) (c .before .before .less3 .ensures) (c .before .less4 .ensures) (c .without .ensures) in (
+      omega arith,
+      started-next _ _ _ _ _ _ _ _ _ _ _ (c .before .before .before .before .before .before .before .loop-test .taken)
+          (c .before .before .before .before .before .before .visiting .ensures)
+          (c .before .before .before .before .before .before .before .before .loop .inv .1) new,
+    )
 
 returns : tie.Need-returns Inv-loop μ-loop
 returns c =
     let ends : c .before .loop .x ≡ 128 = omega arith in
-    starts _ _ _ _ _ _ (c .before .before .before .pre .routes) (c .before .before .before .pre .visitors-are) (c .before .before .lanes .ensures) (rw ends at (c .before .loop .inv .1))
+    starts _ _ _ _ _ _ (c .before .before .before .pre .routes) (c .before .before .before .pre .visitors-are) (c .before .before .lanes .ensures)
+    (rw ends at (c .before .loop .inv .1))
 
 pub start-orders-spec : {M : Type 1} → statement M
 start-orders-spec =

@@ -13,10 +13,20 @@ zone-requires : tie.Need-zone-requires
 zone-requires c κs = search needs
 
 mul-result : tie.Need-mul-result
-mul-result c = omega (arith, zone-known _ _ (c .before .before .before .pre .1) (c .before .before .before .args .x) (rw (c .before .before .steps .ensures) at (c .before .if1 .taken)), c .zone .ensures)
+mul-result c = omega (
+  arith,
+  zone-known _ _ (c .before .before .before .pre .1) (c .before .before .before .args .x)
+      (rw (c .before .before .steps .ensures) at (c .before .if1 .taken)),
+  c .zone .ensures,
+)
 
 element-copy-out-result : tie.Need-element-copy-out-result
-element-copy-out-result c = omega (arith, zone-known _ _ (c .before .before .before .pre .1) (c .before .before .before .args .x) (rw (c .before .before .steps .ensures) at (c .before .if1 .taken)), c .zone .ensures)
+element-copy-out-result c = omega (
+  arith,
+  zone-known _ _ (c .before .before .before .pre .1) (c .before .before .before .args .x)
+      (rw (c .before .before .steps .ensures) at (c .before .if1 .taken)),
+  c .zone .ensures,
+)
 
 returns : tie.Need-returns
 returns c = rw (lt-ltb _ _ (rw (c .before .before .before .steps .ensures) at (c .before .before .if1 .taken)), c .before .zone .ensures)

@@ -32,7 +32,13 @@ count-requires : tie.Need-count-requires Inv-loop μ-loop
 count-requires c κs = search needs
 
 cast-place : tie.Need-cast-place Inv-loop μ-loop
-cast-place c = omega (arith, c .count .ensures, entry-below _ _ _ _ (c .before .before .before .before .before .before .pre) (c .before .before .before .before .before .loop .x) (c .before .before .before .before .loop-test .taken) (rw (c .before .before .before .steps .ensures) at (c .before .before .if1 .taken)))
+cast-place c = omega (
+  arith,
+  c .count .ensures,
+  entry-below _ _ _ _ (c .before .before .before .before .before .before .pre)
+      (c .before .before .before .before .before .loop .x) (c .before .before .before .before .loop-test .taken)
+      (rw (c .before .before .before .steps .ensures) at (c .before .before .if1 .taken)),
+)
 
 cast-list : tie.Need-cast-list Inv-loop μ-loop
 cast-list c = omega arith
@@ -41,13 +47,37 @@ zone-requires : tie.Need-zone-requires Inv-loop μ-loop
 zone-requires c κs = search needs
 
 mul-list : tie.Need-mul-list Inv-loop μ-loop
-mul-list c = omega (arith, c .zone .ensures, c .before .count .ensures, entry-below _ _ _ _ (c .before .before .before .before .before .before .before .pre) (c .before .before .before .before .before .before .loop .x) (c .before .before .before .before .before .loop-test .taken) (rw (c .before .before .before .before .steps .ensures) at (c .before .before .before .if1 .taken)))
+mul-list c = omega (
+  arith,
+  c .zone .ensures,
+  c .before .count .ensures,
+  entry-below _ _ _ _
+      (c .before .before .before .before .before .before .before .pre) (c .before .before .before .before .before .before .loop .x)
+      (c .before .before .before .before .before .loop-test .taken) (rw (c .before .before .before .before .steps .ensures) at
+      (c .before .before .before .if1 .taken)),
+)
 
 add-list : tie.Need-add-list Inv-loop μ-loop
-add-list c = omega (arith, c .zone .ensures, c .before .count .ensures, entry-below _ _ _ _ (c .before .before .before .before .before .before .before .pre) (c .before .before .before .before .before .before .loop .x) (c .before .before .before .before .before .loop-test .taken) (rw (c .before .before .before .before .steps .ensures) at (c .before .before .before .if1 .taken)))
+add-list c = omega (
+  arith,
+  c .zone .ensures,
+  c .before .count .ensures,
+  entry-below _ _ _ _
+      (c .before .before .before .before .before .before .before .pre) (c .before .before .before .before .before .before .loop .x)
+      (c .before .before .before .before .before .loop-test .taken) (rw (c .before .before .before .before .steps .ensures) at
+      (c .before .before .before .if1 .taken)),
+)
 
 array-write-list : tie.Need-array-write-list Inv-loop μ-loop
-array-write-list c = omega (arith, c .zone .ensures, c .before .count .ensures, entry-below _ _ _ _ (c .before .before .before .before .before .before .before .pre) (c .before .before .before .before .before .before .loop .x) (c .before .before .before .before .before .loop-test .taken) (rw (c .before .before .before .before .steps .ensures) at (c .before .before .before .if1 .taken)))
+array-write-list c = omega (
+  arith,
+  c .zone .ensures,
+  c .before .count .ensures,
+  entry-below _ _ _ _
+      (c .before .before .before .before .before .before .before .pre) (c .before .before .before .before .before .before .loop .x)
+      (c .before .before .before .before .before .loop-test .taken) (rw (c .before .before .before .before .steps .ensures) at
+      (c .before .before .before .if1 .taken)),
+)
 
 add-x : tie.Need-add-x Inv-loop μ-loop
 add-x c = search needs
@@ -60,8 +90,10 @@ loop-again c =
     let so-far = c .before .before .before .loop .inv .1 in (
       omega arith,
       ⊎-elim
-          (λ w. rw (w .4, w .3 .ensures) (placed-next _ _ _ _ (c .before .before .before .before .pre) _ (c .before .before .loop-test .taken) _ so-far (rw (c .before .steps .ensures) at (w .0 .taken)) _ (w .2 .ensures)))
-          (λ w. rw (w .1) (placed-skip _ _ _ _ (c .before .before .before .before .pre) _ (c .before .before .loop-test .taken) _ so-far (rw (c .before .steps .ensures) at (w .0 .left))))
+          (λ w. rw (w .4, w .3 .ensures) (placed-next _ _ _ _ (c .before .before .before .before .pre) _ (c .before .before .loop-test .taken) _
+          so-far (rw (c .before .steps .ensures) at (w .0 .taken)) _ (w .2 .ensures)))
+          (λ w. rw (w .1) (placed-skip _ _ _ _ (c .before .before .before .before .pre) _ (c .before .before .loop-test .taken) _ so-far
+          (rw (c .before .steps .ensures) at (w .0 .left))))
           (c .if1 .came),
     )
 

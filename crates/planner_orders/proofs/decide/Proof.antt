@@ -65,7 +65,8 @@ element-write-undecided-2 : tie.Need-element-write-undecided-2
 element-write-undecided-2 c = search needs
 
 returns : tie.Need-returns
-returns c = decides _ _ _ _ _ _ _ _ _ (c .before .before .before .before .before .before .with .ensures) (c .before .before .before .before .with2 .ensures) (c .before .before .without .ensures) (c .without2 .ensures)
+returns c = decides _ _ _ _ _ _ _ _ _ (c .before .before .before .before .before .before .with .ensures)
+    (c .before .before .before .before .with2 .ensures) (c .before .before .without .ensures) (c .without2 .ensures)
 
 pub decide-spec : {M : Type 1} → statement M
 decide-spec =

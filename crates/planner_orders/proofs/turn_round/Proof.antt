@@ -65,7 +65,8 @@ element-write-behind-2 : tie.Need-element-write-behind-2
 element-write-behind-2 c = search needs
 
 returns : tie.Need-returns
-returns c = turns-round _ _ _ _ _ _ _ _ (c .before .before .before .before .before .before .without .ensures) (c .before .before .before .before .with .ensures) (c .before .before .without2 .ensures) (c .with2 .ensures)
+returns c = turns-round _ _ _ _ _ _ _ _ (c .before .before .before .before .before .before .without .ensures)
+    (c .before .before .before .before .with .ensures) (c .before .before .without2 .ensures) (c .with2 .ensures)
 
 pub turn-round-spec : {M : Type 1} → statement M
 turn-round-spec =

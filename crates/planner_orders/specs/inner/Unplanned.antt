@@ -1,6 +1,6 @@
 -- What is to be planned, as a sheet's tables say it, and what is asked of it.
 use Prim.Native.Nat.{ℕ, _≤_}
-use mathlib.Core.Bool.{false}
+use mathlib.Core.Bool.{Bool, false}
 use mathlib.Core.List.{List}
 use Rattle.words.specs.Lists.{entries}
 use Rattle.routes.specs.Crossing.{Crossing}
@@ -31,9 +31,12 @@ sheetUnplanned sheet =
     unplannedBy (sheet .steps) (sheet .zone) (sheet .lane) (sheet .arrival) (sheet .passing) (sheet .travel) (sheet .follow) (sheet .cross)
     (sheet .zones) (sheet .carts)
 
--- the routes, with no order present
+-- the routes, with a test of who goes before whom; and with no order present
+abbrev pub ordered : Unplanned → (ℕ → ℕ → ℕ → Bool) → Crossing
+ordered U before = record { routes = U .routes; before = before }
+
 abbrev pub unordered : Unplanned → Crossing
-unordered U = record { routes = U .routes; before = λ z d c. false }
+unordered U = ordered U (λ z d c. false)
 
 -- it can be planned, and the sizes and times are a sheet's
 pub record SheetSized (U : Unplanned) : Type 0 where

@@ -14,7 +14,8 @@ returns : tie.Need-returns
 returns c = before-same _ _ _ (rw (c .before .before .arrival .ensures, c .before .arrival2 .ensures) at (c .if1 .taken))
 
 returns-2 : tie.Need-returns-2
-returns-2 c = rw (c .before .before .arrival .ensures, c .before .arrival2 .ensures) (before-other _ _ _ (rw (c .before .before .arrival .ensures, c .before .arrival2 .ensures) at (c .if1 .left)))
+returns-2 c = rw (c .before .before .arrival .ensures, c .before .arrival2 .ensures)
+    (before-other _ _ _ (rw (c .before .before .arrival .ensures, c .before .arrival2 .ensures) at (c .if1 .left)))
 
 pub comes-before-spec : {M : Type 1} → statement M
 comes-before-spec = tie.close (tie.spec arrival-requires arrival-requires-2 returns returns-2)

@@ -25,7 +25,11 @@ comes-before-requires : tie.Need-comes-before-requires Inv-loop μ-loop
 comes-before-requires c κs = search needs
 
 add-rank : tie.Need-add-rank Inv-loop μ-loop
-add-rank c = omega (arith, count-most (c .before .before .before .loop .d) (λ e. comesBeforeIn (parts.arrival (c .before .before .before .before .args .sheet .now)) e (c .before .before .before .before .args .c)))
+add-rank c = omega (
+  arith,
+  count-most (c .before .before .before .loop .d) (λ e. comesBeforeIn
+      (parts.arrival (c .before .before .before .before .args .sheet .now)) e (c .before .before .before .before .args .c)),
+)
 
 add-d : tie.Need-add-d Inv-loop μ-loop
 add-d c = search needs
@@ -34,7 +38,12 @@ loop-less : tie.Need-loop-less Inv-loop μ-loop
 loop-less c = search needs
 
 loop-again : tie.Need-loop-again Inv-loop μ-loop
-loop-again c = (omega arith, ⊎-elim (λ w. w .1 ∙ count-yes _ _ _ (c .before .before .before .loop .inv .1) (sym (c .before .comes-before .ensures) ∙ w .0 .taken)) (λ w. w .1 ∙ count-no _ _ _ (c .before .before .before .loop .inv .1) (sym (c .before .comes-before .ensures) ∙ w .0 .left)) (c .if1 .came))
+loop-again c = (
+  omega arith,
+  ⊎-elim (λ w. w .1 ∙ count-yes _ _ _ (c .before .before .before .loop .inv .1)
+      (sym (c .before .comes-before .ensures) ∙ w .0 .taken)) (λ w. w .1 ∙ count-no _ _ _ (c .before .before .before .loop .inv .1)
+      (sym (c .before .comes-before .ensures) ∙ w .0 .left)) (c .if1 .came),
+)
 
 returns : tie.Need-returns Inv-loop μ-loop
 returns c = rank-all _ _ _ _ _ (omega (arith, c .before .loop .inv .0)) (c .before .loop .inv .1)

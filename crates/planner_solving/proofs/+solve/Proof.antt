@@ -59,7 +59,18 @@ solve-solve-requires : (t : ℕ) → solve-lts.Need-solve-requires (
   solve-below t,
   solve.Post,
 ) (solve-at t) solve.Post
-solve-solve-requires t c κs = (omega (arith, c .before .before .before .before .before .before .before .before .pre .0, two-ranks (c .before .before .before .before .try-group .ensures) (c .before .before .before .if1 .left) (c .before .before .before .before .before .before .before .before .pre .1)), lower-triable (c .before .before .before .before .try-group .ensures) (c .before .before .before .if1 .left) (c .before .before .before .before .before .before .before .before .pre .1))
+solve-solve-requires t c κs = (
+  omega (
+    arith,
+    c .before .before .before .before .before .before .before .before .pre .0,
+    two-ranks
+        (c .before .before .before .before .try-group .ensures) (c .before .before .before .if1 .left)
+        (c .before .before .before .before .before .before .before .before .pre .1),
+  ),
+  lower-triable
+      (c .before .before .before .before .try-group .ensures) (c .before .before .before .if1 .left)
+      (c .before .before .before .before .before .before .before .before .pre .1),
+)
 
 solve-solve-requires-2 : (t : ℕ) → solve-lts.Need-solve-requires-2 (
   try-group-reads.Asked,
@@ -75,7 +86,10 @@ solve-returns-2 : (t : ℕ) → solve-lts.Need-returns-2 (
   solve-below t,
   solve.Post,
 ) (solve-at t) solve.Post
-solve-returns-2 t c = halves-solve (c .before .before .before .before .before .before .before .before .before .try-group .ensures) (c .before .before .before .before .before .before .before .before .if1 .left) (c .before .before .before .before .before .before .before .before .before .before .before .before .before .pre .1) (c .before .before .before .before .solve .ensures) (c .solve2 .ensures)
+solve-returns-2 t c = halves-solve (c .before .before .before .before .before .before .before .before .before .try-group .ensures)
+    (c .before .before .before .before .before .before .before .before .if1 .left)
+    (c .before .before .before .before .before .before .before .before .before .before .before .before .before .pre .1)
+    (c .before .before .before .before .solve .ensures) (c .solve2 .ensures)
 
 pub +solve-spec : {M : Type 1} → statement M
 +solve-spec = close μ-solve λ t. solve-lts.spec (

@@ -1,4 +1,4 @@
--- The sheet's tables are worked out, the group of all ranks is solved over them, and they hold the final orders.
+-- The sheet's tables are worked out, and the group of all ranks is solved over them.
 use mathlib.Core.Path.{refl}
 use Rattle.plan_reader.proofs.ValidLaws.{valid-routes}
 use Rattle.planner_solving.proofs.Tables.{sheet-routed, lanes-most, sheet-triable, sheet-solved}
@@ -12,7 +12,15 @@ visit-places-requires : tie.Need-visit-places-requires
 visit-places-requires c κs = sheet-routed _ _ _ (c .before .pre .0 .1)
 
 start-orders-requires : tie.Need-start-orders-requires
-start-orders-requires c κs = record { routes = valid-routes _ (c .before .before .before .before .before .pre .0 .1); lane-most = lanes-most _ _ _ (c .before .before .before .before .before .pre .0 .1); visitors-are = c .before .before .before .before .before .pre .1; ahead-128 = refl; behind-128 = refl; pairs-128 = refl }
+start-orders-requires c κs = record {
+  routes = valid-routes _ (c .before .before .before .before .before .pre .0 .1);
+  lane-most = lanes-most _ _ _
+      (c .before .before .before .before .before .pre .0 .1);
+  visitors-are = c .before .before .before .before .before .pre .1;
+  ahead-128 = refl;
+  behind-128 = refl;
+  pairs-128 = refl;
+}
 
 solve-requires : tie.Need-solve-requires
 solve-requires c κs = sheet-triable _ _ _ (c .before .before .before .before .before .before .before .before .before .before .before .before .pre .0 .1) (c .before .before .before .before .before .before .before .before .before .before .before .ranks .ensures) (c .before .before .before .before .before .before .before .before .before .before .visit-places .ensures) (c .before .before .before .before .before .before .start-orders .ensures)

@@ -11,7 +11,8 @@ use Rattle.planner_spare.proofs.least_behind.Statement.{statement}
 use Rattle.planner_spare.proofs.least_behind.Tie as tie
 
 abbrev Inv-loop : tie.InvT-loop
-Inv-loop visit spare z behind alone least₀ others₀ least others = leastOf (has behind) (spareIn visit spare z) alone 16 ≡ leastOf (has others) (spareIn visit spare z) least 16
+Inv-loop visit spare z behind alone least₀ others₀ least others = leastOf (has behind) (spareIn visit spare z) alone 16 ≡ leastOf (has others)
+    (spareIn visit spare z) least 16
 
 abbrev μ-loop : tie.MeasureT-loop
 μ-loop visit spare z behind alone least₀ others₀ least others = others
@@ -35,13 +36,25 @@ element-copy-out-least-time : tie.Need-element-copy-out-least-time Inv-loop μ-l
 element-copy-out-least-time c = omega (arith, c .before .before .before .before .pre .0, c .before .lowest .ensures .0)
 
 cast-least-time : tie.Need-cast-least-time Inv-loop μ-loop
-cast-least-time c = omega (arith, c .before .before .before .before .before .pre .1 (16 * c .before .before .before .before .before .args .z + c .before .before .lowest .result))
+cast-least-time c = omega (
+  arith,
+  c .before .before .before .before .before .pre .1
+      (16 * c .before .before .before .before .before .args .z + c .before .before .lowest .result),
+)
 
 mul-least-time-2 : tie.Need-mul-least-time-2 Inv-loop μ-loop
-mul-least-time-2 c = omega (arith, c .before .before .before .before .before .pre .1 (16 * c .before .before .before .before .before .args .z + c .before .before .lowest .result))
+mul-least-time-2 c = omega (
+  arith,
+  c .before .before .before .before .before .pre .1
+      (16 * c .before .before .before .before .before .args .z + c .before .before .lowest .result),
+)
 
 element-copy-out-least-time-2 : tie.Need-element-copy-out-least-time-2 Inv-loop μ-loop
-element-copy-out-least-time-2 c = omega (arith, c .before .before .before .before .before .pre .1 (16 * c .before .before .before .before .before .args .z + c .before .before .lowest .result))
+element-copy-out-least-time-2 c = omega (
+  arith,
+  c .before .before .before .before .before .pre .1
+      (16 * c .before .before .before .before .before .args .z + c .before .before .lowest .result),
+)
 
 least-time-requires : tie.Need-least-time-requires Inv-loop μ-loop
 least-time-requires c κs = search needs
@@ -50,7 +63,9 @@ loop-less : tie.Need-loop-less Inv-loop μ-loop
 loop-less c = c .before .before .before .rest .ensures .smaller
 
 loop-again : tie.Need-loop-again Inv-loop μ-loop
-loop-again c = c .before .before .before .before .before .before .loop .inv ∙ rw (c .least-time .ensures) (least-turn _ _ _ _ _ (c .before .before .before .before .lowest .ensures .0) (c .before .before .before .before .lowest .ensures .1) (c .before .before .before .rest .ensures))
+loop-again c = c .before .before .before .before .before .before .loop .inv ∙ rw (c .least-time .ensures)
+    (least-turn _ _ _ _ _ (c .before .before .before .before .lowest .ensures .0) (c .before .before .before .before .lowest .ensures .1)
+    (c .before .before .before .rest .ensures))
 
 returns : tie.Need-returns Inv-loop μ-loop
 returns c = sym (c .before .loop .inv ∙ least-none _ _ _ (c .loop-test .left))

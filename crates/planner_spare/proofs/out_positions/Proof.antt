@@ -36,7 +36,11 @@ loop-less : tie.Need-loop-less Inv-loop μ-loop
 loop-less c = search needs
 
 loop-again : tie.Need-loop-again Inv-loop μ-loop
-loop-again c = (omega arith, table-next 16 _ _ _ _ (omega arith) (rw (c .before .steps .ensures) at (c .moves-of .ensures)) (c .before .before .before .loop .inv .1))
+loop-again c = (
+  omega arith,
+  table-next 16 _ _ _ _ (omega arith) (rw (c .before .steps .ensures) at (c .moves-of .ensures))
+      (c .before .before .before .loop .inv .1),
+)
 
 returns : tie.Need-returns Inv-loop μ-loop
 returns c = c .before .loop .inv .1 ∙ table-all 16 _ _ (omega arith)

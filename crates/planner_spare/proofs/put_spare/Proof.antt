@@ -13,7 +13,12 @@ zone-requires : tie.Need-zone-requires
 zone-requires c κs = omega (arith, c .pre .0 .routed .routes .few (c .args .c))
 
 spare-alone-requires : tie.Need-spare-alone-requires
-spare-alone-requires c κs = (c .before .before .pre .0 .leavable, c .before .before .pre .1, c .before .before .pre .2, c .before .before .pre .0 .last-left _ (c .before .before .pre .1))
+spare-alone-requires c κs = (
+  c .before .before .pre .0 .leavable,
+  c .before .before .pre .1,
+  c .before .before .pre .2,
+  c .before .before .pre .0 .last-left _ (c .before .before .pre .1),
+)
 
 mul-least-behind : tie.Need-mul-least-behind
 mul-least-behind c = omega (arith, c .before .before .before .before .pre .0 .routed .routes .few (c .before .before .before .before .args .c))
@@ -22,13 +27,27 @@ element-copy-out-least-behind : tie.Need-element-copy-out-least-behind
 element-copy-out-least-behind c = omega (arith, c .before .before .before .before .pre .0 .routed .routes .few (c .before .before .before .before .args .c))
 
 least-behind-requires : tie.Need-least-behind-requires
-least-behind-requires c κs = (rw (c .before .before .before .before .zone .ensures) (c .before .before .before .before .before .pre .0 .routed .routes .known (c .before .before .before .before .before .args .c) (c .before .before .before .before .before .args .j) (c .before .before .before .before .before .pre .2)), λ y. omega (arith, c .before .before .before .before .before .pre .0 .places .below y))
+least-behind-requires c κs = (
+  rw (c .before .before .before .before .zone .ensures)
+      (c .before .before .before .before .before .pre .0 .routed .routes .known (c .before .before .before .before .before .args .c)
+      (c .before .before .before .before .before .args .j) (c .before .before .before .before .before .pre .2)),
+  λ y. omega
+      (arith, c .before .before .before .before .before .pre .0 .places .below y),
+)
 
 mul-spare : tie.Need-mul-spare
-mul-spare c = omega (arith, c .before .before .before .before .before .before .pre .0 .routed .routes .few (c .before .before .before .before .before .before .args .c))
+mul-spare c = omega (
+  arith,
+  c .before .before .before .before .before .before .pre .0 .routed .routes .few
+      (c .before .before .before .before .before .before .args .c),
+)
 
 element-write-spare : tie.Need-element-write-spare
-element-write-spare c = omega (arith, c .before .before .before .before .before .before .pre .0 .routed .routes .few (c .before .before .before .before .before .before .args .c))
+element-write-spare c = omega (
+  arith,
+  c .before .before .before .before .before .before .pre .0 .routed .routes .few
+      (c .before .before .before .before .before .before .args .c),
+)
 
 returns : tie.Need-returns
 returns c = rw (c .least-behind .ensures, c .before .before .before .spare-alone .ensures, c .before .before .before .before .before .zone .ensures)

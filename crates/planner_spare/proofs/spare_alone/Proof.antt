@@ -39,10 +39,19 @@ passing-requires : tie.Need-passing-requires
 passing-requires c κs = omega (arith, c .before .before .before .pre .0 .steps-most _ (c .before .before .before .pre .1))
 
 add-result-2 : tie.Need-add-result-2
-add-result-2 c = omega (arith, c .before .before .before .before .pre .0 .passing-most (8 * c .before .before .before .before .args .c + c .before .before .before .before .args .j), c .passing .ensures, c .before .before .before .before .pre .0 .enter-most (8 * c .before .before .before .before .args .c + c .before .before .before .before .args .j))
+add-result-2 c = omega (
+  arith,
+  c .before .before .before .before .pre .0 .passing-most
+      (8 * c .before .before .before .before .args .c + c .before .before .before .before .args .j),
+  c .passing .ensures,
+  c .before .before .before .before .pre .0 .enter-most (8 * c .before .before .before .before .args .c + c .before .before .before .before .args .j),
+)
 
 sub-result : tie.Need-sub-result
-sub-result c = rw (c .passing .ensures) (last-by-finish (parts.steps (c .before .before .before .before .args .sheet .now)) (parts.passing (c .before .before .before .before .args .sheet .now)) (c .before .before .before .before .args .enter .now) (c .before .before .before .before .args .c) _ _ (c .before .before .before .before .pre .2) (rw (c .before .before .before .steps .ensures) at (c .before .before .if1 .left)) (c .before .before .before .before .pre .3))
+sub-result c = rw (c .passing .ensures) (last-by-finish (parts.steps (c .before .before .before .before .args .sheet .now))
+    (parts.passing (c .before .before .before .before .args .sheet .now)) (c .before .before .before .before .args .enter .now)
+    (c .before .before .before .before .args .c) _ _ (c .before .before .before .before .pre .2)
+    (rw (c .before .before .before .steps .ensures) at (c .before .before .if1 .left)) (c .before .before .before .before .pre .3))
 
 returns : tie.Need-returns
 returns c = rw (lt-ltb _ _ (rw (c .before .before .steps .ensures) at (c .before .if1 .taken)))

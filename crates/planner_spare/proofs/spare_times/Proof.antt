@@ -7,7 +7,8 @@ use Rattle.planner_spare.proofs.spare_times.Statement.{statement}
 use Rattle.planner_spare.proofs.spare_times.Tie as tie
 
 abbrev Inv-loop : tie.InvT-loop
-Inv-loop sheet behind visit enter order made finish spare₀ at₀ k₀ spare at k = BackTo (parts.steps sheet) (parts.zone sheet) (parts.passing sheet) behind visit enter order made finish k at spare
+Inv-loop sheet behind visit enter order made finish spare₀ at₀ k₀ spare at k = BackTo (parts.steps sheet) (parts.zone sheet) (parts.passing sheet)
+    behind visit enter order made finish k at spare
 
 abbrev μ-loop : tie.MeasureT-loop
 μ-loop sheet behind visit enter order made finish spare₀ at₀ k₀ spare at k = k
@@ -25,40 +26,78 @@ element-copy-out-c : tie.Need-element-copy-out-c Inv-loop μ-loop
 element-copy-out-c c = omega (arith, c .before .loop .inv .few, c .before .before .before .pre .few)
 
 cast-c : tie.Need-cast-c Inv-loop μ-loop
-cast-c c = omega (arith, turn-cart _ _ _ _ _ _ _ _ _ _ (c .before .before .before .before .pre) (c .before .before .loop .k - 1) (c .before .before .loop .k) (omega (arith, c .before .loop-test .taken)) _ _ (c .before .before .loop .inv))
+cast-c c = omega (
+  arith,
+  turn-cart _ _ _ _ _ _ _ _ _ _ (c .before .before .before .before .pre) (c .before .before .loop .k - 1)
+      (c .before .before .loop .k) (omega (arith, c .before .loop-test .taken)) _ _ (c .before .before .loop .inv),
+)
 
 array-read-at : tie.Need-array-read-at Inv-loop μ-loop
-array-read-at c = omega (arith, turn-cart _ _ _ _ _ _ _ _ _ _ (c .before .before .before .before .pre) (c .before .before .loop .k - 1) (c .before .before .loop .k) (omega (arith, c .before .loop-test .taken)) _ _ (c .before .before .loop .inv))
+array-read-at c = omega (
+  arith,
+  turn-cart _ _ _ _ _ _ _ _ _ _ (c .before .before .before .before .pre) (c .before .before .loop .k - 1)
+      (c .before .before .loop .k) (omega (arith, c .before .loop-test .taken)) _ _ (c .before .before .loop .inv),
+)
 
 sub-at : tie.Need-sub-at Inv-loop μ-loop
-sub-at c = omega (arith, turn-some _ _ _ _ _ _ _ _ _ _ (c .before .before .before .before .pre) (c .before .before .loop .k - 1) (c .before .before .loop .k) (omega (arith, c .before .loop-test .taken)) _ _ (c .before .before .loop .inv))
+sub-at c = omega (
+  arith,
+  turn-some _ _ _ _ _ _ _ _ _ _ (c .before .before .before .before .pre) (c .before .before .loop .k - 1)
+      (c .before .before .loop .k) (omega (arith, c .before .loop-test .taken)) _ _ (c .before .before .loop .inv),
+)
 
 array-write-at : tie.Need-array-write-at Inv-loop μ-loop
-array-write-at c = omega (arith, turn-cart _ _ _ _ _ _ _ _ _ _ (c .before .before .before .before .pre) (c .before .before .loop .k - 1) (c .before .before .loop .k) (omega (arith, c .before .loop-test .taken)) _ _ (c .before .before .loop .inv))
+array-write-at c = omega (
+  arith,
+  turn-cart _ _ _ _ _ _ _ _ _ _ (c .before .before .before .before .pre) (c .before .before .loop .k - 1)
+      (c .before .before .loop .k) (omega (arith, c .before .loop-test .taken)) _ _ (c .before .before .loop .inv),
+)
 
 array-read-j : tie.Need-array-read-j Inv-loop μ-loop
-array-read-j c = omega (arith, turn-cart _ _ _ _ _ _ _ _ _ _ (c .before .before .before .before .pre) (c .before .before .loop .k - 1) (c .before .before .loop .k) (omega (arith, c .before .loop-test .taken)) _ _ (c .before .before .loop .inv))
+array-read-j c = omega (
+  arith,
+  turn-cart _ _ _ _ _ _ _ _ _ _ (c .before .before .before .before .pre) (c .before .before .loop .k - 1)
+      (c .before .before .loop .k) (omega (arith, c .before .loop-test .taken)) _ _ (c .before .before .loop .inv),
+)
 
 cast-j : tie.Need-cast-j Inv-loop μ-loop
-cast-j c = omega (arith, turn-few _ _ _ _ _ _ _ _ _ _ (c .before .before .before .before .pre) (c .before .before .loop .k - 1) (c .before .before .loop .k) (omega (arith, c .before .loop-test .taken)) _ _ (c .before .before .loop .inv))
+cast-j c = omega (
+  arith,
+  turn-few _ _ _ _ _ _ _ _ _ _ (c .before .before .before .before .pre) (c .before .before .loop .k - 1)
+      (c .before .before .loop .k) (omega (arith, c .before .loop-test .taken)) _ _ (c .before .before .loop .inv),
+)
 
 steps-requires : tie.Need-steps-requires Inv-loop μ-loop
-steps-requires c κs = turn-cart _ _ _ _ _ _ _ _ _ _ (c .before .before .before .before .pre) (c .before .before .loop .k - 1) (c .before .before .loop .k) (omega (arith, c .before .loop-test .taken)) _ _ (c .before .before .loop .inv)
+steps-requires c κs = turn-cart _ _ _ _ _ _ _ _ _ _ (c .before .before .before .before .pre) (c .before .before .loop .k - 1)
+    (c .before .before .loop .k) (omega (arith, c .before .loop-test .taken)) _ _ (c .before .before .loop .inv)
 
 put-spare-requires : tie.Need-put-spare-requires Inv-loop μ-loop
-put-spare-requires c κs = (c .before .before .before .before .before .before .before .pre .tables, turn-cart _ _ _ _ _ _ _ _ _ _ (c .before .before .before .before .before .before .before .pre) (c .before .before .before .before .before .loop .k - 1) (c .before .before .before .before .before .loop .k) (omega (arith, c .before .before .before .before .loop-test .taken)) _ _ (c .before .before .before .before .before .loop .inv), rw (c .before .before .steps .ensures) at (c .before .if1 .taken))
+put-spare-requires c κs = (
+  c .before .before .before .before .before .before .before .pre .tables,
+  turn-cart _ _ _ _ _ _ _ _ _ _
+      (c .before .before .before .before .before .before .before .pre) (c .before .before .before .before .before .loop .k - 1)
+      (c .before .before .before .before .before .loop .k) (omega (arith, c .before .before .before .before .loop-test .taken)) _ _
+      (c .before .before .before .before .before .loop .inv),
+  rw (c .before .before .steps .ensures) at (c .before .if1 .taken),
+)
 
 loop-less : tie.Need-loop-less Inv-loop μ-loop
 loop-less c = omega (arith, c .before .before .before .before .before .loop-test .taken)
 
 loop-again : tie.Need-loop-again Inv-loop μ-loop
-loop-again c = turn-step _ _ _ _ _ _ _ _ _ _ (c .before .before .before .before .before .before .before .before .pre) (c .before .before .before .before .before .before .loop .k - 1) (c .before .before .before .before .before .before .loop .k) (omega (arith, c .before .before .before .before .before .loop-test .taken)) _ _ (c .before .before .before .before .before .before .loop .inv) (rw (c .before .before .before .steps .ensures) at (c .before .before .if1 .taken)) _ (c .put-spare .ensures)
+loop-again c = turn-step _ _ _ _ _ _ _ _ _ _ (c .before .before .before .before .before .before .before .before .pre)
+    (c .before .before .before .before .before .before .loop .k - 1) (c .before .before .before .before .before .before .loop .k)
+    (omega (arith, c .before .before .before .before .before .loop-test .taken)) _ _ (c .before .before .before .before .before .before .loop .inv)
+    (rw (c .before .before .before .steps .ensures) at (c .before .before .if1 .taken)) _ (c .put-spare .ensures)
 
 loop-less-2 : tie.Need-loop-less-2 Inv-loop μ-loop
 loop-less-2 c = omega (arith, c .before .before .before .loop-test .taken)
 
 loop-again-2 : tie.Need-loop-again-2 Inv-loop μ-loop
-loop-again-2 c = turn-out _ _ _ _ _ _ _ _ _ _ (c .before .before .before .before .before .before .pre) (c .before .before .before .before .loop .k - 1) (c .before .before .before .before .loop .k) (omega (arith, c .before .before .before .loop-test .taken)) _ _ (c .before .before .before .before .loop .inv) (rw (c .before .steps .ensures) at (c .if1 .left))
+loop-again-2 c = turn-out _ _ _ _ _ _ _ _ _ _ (c .before .before .before .before .before .before .pre)
+    (c .before .before .before .before .loop .k - 1) (c .before .before .before .before .loop .k)
+    (omega (arith, c .before .before .before .loop-test .taken)) _ _ (c .before .before .before .before .loop .inv)
+    (rw (c .before .steps .ensures) at (c .if1 .left))
 
 returns : tie.Need-returns Inv-loop μ-loop
 returns c = back-end _ _ _ _ _ _ _ _ _ _ _ _ (c .loop-test .left) (c .before .loop .inv)

@@ -7,13 +7,16 @@ finish-of-requires : tie.Need-finish-of-requires
 finish-of-requires c κs = trial-leavable _ _ _ _ _ _ _ _ _ _ (c .pre .runs-out) (c .pre .underway)
 
 spare-times-requires : tie.Need-spare-times-requires
-spare-times-requires c κs = trial-ready _ _ _ _ _ _ _ _ _ _ (c .before .before .pre .runs-out) _ (c .before .finish-of .ensures) (c .before .before .pre .underway)
+spare-times-requires c κs = trial-ready _ _ _ _ _ _ _ _ _ _ (c .before .before .pre .runs-out) _ (c .before .finish-of .ensures)
+    (c .before .before .pre .underway)
 
 largest-cost-requires : tie.Need-largest-cost-requires
-largest-cost-requires c κs = trial-range _ _ _ _ _ _ _ _ _ _ (c .before .before .before .before .pre .runs-out) _ _ (c .before .before .before .finish-of .ensures) (c .before .spare-times .ensures) (c .before .before .before .before .pre .underway)
+largest-cost-requires c κs = trial-range _ _ _ _ _ _ _ _ _ _ (c .before .before .before .before .pre .runs-out) _ _
+    (c .before .before .before .finish-of .ensures) (c .before .spare-times .ensures) (c .before .before .before .before .pre .underway)
 
 returns : tie.Need-returns
-returns c = chosen-told _ _ _ _ _ _ _ _ _ _ (c .before .before .before .before .finish-of .ensures) (c .before .before .spare-times .ensures) _ (c .largest-cost .ensures)
+returns c = chosen-told _ _ _ _ _ _ _ _ _ _ (c .before .before .before .before .finish-of .ensures) (c .before .before .spare-times .ensures) _
+    (c .largest-cost .ensures)
 
 pub choose-spec : {M : Type 1} → statement M
 choose-spec =

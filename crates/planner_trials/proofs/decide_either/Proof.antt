@@ -15,13 +15,25 @@ add-other : tie.Need-add-other
 add-other c = omega (arith, c .before .pre .underway .told .zone-most (c .before .args .step), c .before .pre .candidate .first-below, c .zone .ensures)
 
 element-copy-out-other : tie.Need-element-copy-out-other
-element-copy-out-other c = omega (arith, c .before .pre .underway .told .zone-most (c .before .args .step), c .before .pre .candidate .first-below, c .zone .ensures)
+element-copy-out-other c = omega (
+  arith,
+  c .before .pre .underway .told .zone-most (c .before .args .step),
+  c .before .pre .candidate .first-below,
+  c .zone .ensures,
+)
 
 cast-other : tie.Need-cast-other
 cast-other c = omega (arith, c .before .before .pre .underway .told .places .below (16 * c .before .zone .result + c .before .before .args .first))
 
 decide-requires : tie.Need-decide-requires
-decide-requires c κs = (omega (arith, c .before .before .before .before .before .pre .underway .told .places .below (16 * c .before .before .before .before .zone .result + c .before .before .before .before .before .args .first)), c .before .before .before .before .before .pre .candidate .step-below)
+decide-requires c κs = (
+  omega (
+    arith,
+    c .before .before .before .before .before .pre .underway .told .places .below
+        (16 * c .before .before .before .before .zone .result + c .before .before .before .before .before .args .first),
+  ),
+  c .before .before .before .before .before .pre .candidate .step-below,
+)
 
 verdict-of-requires : tie.Need-verdict-of-requires
 verdict-of-requires c κs = opposite-runnable _ _ _ _ _ _ _ (c .before .before .before .before .before .before .before .before .before .pre .candidate) _ _ _ (rw (c .before .before .before .before .before .before .before .before .zone .ensures) at (c .before .before .before .decide .ensures)) (c .before .before .before .before .before .before .before .before .before .pre .ranks, c .before .before .before .before .before .before .before .before .before .pre .pairs, c .before .before .before .before .before .before .before .before .before .pre .underway) _ (c .before .before .before .before .before .before .before .before .before .pre .order-144)

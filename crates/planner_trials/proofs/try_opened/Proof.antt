@@ -9,7 +9,8 @@ open-group-requires : tie.Need-open-group-requires
 open-group-requires c κs = search needs
 
 verdict-of-requires : tie.Need-verdict-of-requires
-verdict-of-requires c κs = opened-runnable _ _ _ _ _ _ _ _ _ (c .before .before .before .before .before .before .before .pre) _ _ _ (c .before .before .before .open-group .ensures) _ refl
+verdict-of-requires c κs = opened-runnable _ _ _ _ _ _ _ _ _ (c .before .before .before .before .before .before .before .pre) _ _ _
+    (c .before .before .before .open-group .ensures) _ refl
 
 try-pairs-requires : tie.Need-try-pairs-requires
 try-pairs-requires c κs = opened-trial _ _ _ _ _ _ _ _ _ (c .before .before .before .before .before .before .before .before .before .before .before .before .before .pre) _ _ _ (c .before .before .before .before .before .before .before .before .before .open-group .ensures) _ _ _ (c .before .before .before .before .before .verdict-of .ensures)

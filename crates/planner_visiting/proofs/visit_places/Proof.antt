@@ -27,13 +27,28 @@ cast-visit : tie.Need-cast-visit Inv-loop μ-loop
 cast-visit c = search needs
 
 mul-visit : tie.Need-mul-visit Inv-loop μ-loop
-mul-visit c = omega (arith, zone-below _ _ (c .before .before .before .before .before .pre) (c .before .before .before .before .loop .x) (rw (c .before .before .steps .ensures) at (c .before .if1 .taken)), c .zone .ensures)
+mul-visit c = omega (
+  arith,
+  zone-below _ _ (c .before .before .before .before .before .pre) (c .before .before .before .before .loop .x)
+      (rw (c .before .before .steps .ensures) at (c .before .if1 .taken)),
+  c .zone .ensures,
+)
 
 add-visit : tie.Need-add-visit Inv-loop μ-loop
-add-visit c = omega (arith, zone-below _ _ (c .before .before .before .before .before .pre) (c .before .before .before .before .loop .x) (rw (c .before .before .steps .ensures) at (c .before .if1 .taken)), c .zone .ensures)
+add-visit c = omega (
+  arith,
+  zone-below _ _ (c .before .before .before .before .before .pre) (c .before .before .before .before .loop .x)
+      (rw (c .before .before .steps .ensures) at (c .before .if1 .taken)),
+  c .zone .ensures,
+)
 
 array-write-visit : tie.Need-array-write-visit Inv-loop μ-loop
-array-write-visit c = omega (arith, zone-below _ _ (c .before .before .before .before .before .pre) (c .before .before .before .before .loop .x) (rw (c .before .before .steps .ensures) at (c .before .if1 .taken)), c .zone .ensures)
+array-write-visit c = omega (
+  arith,
+  zone-below _ _ (c .before .before .before .before .before .pre) (c .before .before .before .before .loop .x)
+      (rw (c .before .before .steps .ensures) at (c .before .if1 .taken)),
+  c .zone .ensures,
+)
 
 add-x : tie.Need-add-x Inv-loop μ-loop
 add-x c = search needs
@@ -42,7 +57,13 @@ loop-less : tie.Need-loop-less Inv-loop μ-loop
 loop-less c = search needs
 
 loop-again : tie.Need-loop-again Inv-loop μ-loop
-loop-again c = (omega arith, ⊎-elim (λ w. rw (w .2, w .1 .ensures) (placed-next _ _ (c .before .before .before .before .pre) _ (c .before .before .loop-test .taken) _ (c .before .before .before .loop .inv .1) (rw (c .before .steps .ensures) at (w .0 .taken)))) (λ w. rw (w .1) (placed-past _ _ (c .before .before .before .before .pre) _ (c .before .before .loop-test .taken) _ (c .before .before .before .loop .inv .1) (rw (c .before .steps .ensures) at (w .0 .left)))) (c .if1 .came))
+loop-again c = (
+  omega arith,
+  ⊎-elim (λ w. rw (w .2, w .1 .ensures) (placed-next _ _ (c .before .before .before .before .pre) _
+      (c .before .before .loop-test .taken) _ (c .before .before .before .loop .inv .1) (rw (c .before .steps .ensures) at (w .0 .taken))))
+      (λ w. rw (w .1) (placed-past _ _ (c .before .before .before .before .pre) _ (c .before .before .loop-test .taken) _
+      (c .before .before .before .loop .inv .1) (rw (c .before .steps .ensures) at (w .0 .left)))) (c .if1 .came),
+)
 
 returns : tie.Need-returns Inv-loop μ-loop
 returns c = placed-all _ _ _ _ (c .before .before .pre) (c .loop-test .left) (c .before .loop .inv .1)

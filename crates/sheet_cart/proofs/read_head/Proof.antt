@@ -28,7 +28,12 @@ refused-requires-2 c κs = search needs
 
 returns-2 : tie.Need-returns-2
 unfolding headAt taking
-returns-2 c = rw (c .refused2 .ensures, sym (c .before .before .before .before .before .one-byte .ensures) ∙ c .before .before .before .lane .given .1, lt-leb _ _ (c .before .if1 .taken))
+returns-2 c = rw (
+  c .refused2 .ensures,
+  sym (c .before .before .before .before .before .one-byte .ensures) ∙
+      c .before .before .before .lane .given .1,
+  lt-leb _ _ (c .before .if1 .taken),
+)
 
 four-bytes-requires : tie.Need-four-bytes-requires
 four-bytes-requires c κs = search needs
@@ -44,14 +49,30 @@ refused-requires-3 c κs = search needs
 
 returns-3 : tie.Need-returns-3
 unfolding headAt taking
-returns-3 c = rw (c .refused3 .ensures, sym (c .before .before .before .before .before .before .before .before .one-byte .ensures) ∙ c .before .before .before .before .before .before .lane .given .1, le-leb _ _ (c .before .before .before .before .if1 .left), sym (c .before .before .before .four-bytes .ensures) ∙ c .before .enum-told2 .given .1)
+returns-3 c = rw (
+  c .refused3 .ensures,
+  sym (c .before .before .before .before .before .before .before .before .one-byte .ensures) ∙
+      c .before .before .before .before .before .before .lane .given .1,
+  le-leb _ _ (c .before .before .before .before .if1 .left),
+  sym
+      (c .before .before .before .four-bytes .ensures) ∙ c .before .enum-told2 .given .1,
+)
 
 refused-requires-4 : tie.Need-refused-requires-4
 refused-requires-4 c κs = search needs
 
 returns-4 : tie.Need-returns-4
 unfolding headAt taking
-returns-4 c = rw (c .refused4 .ensures, sym (c .before .before .before .before .before .before .before .before .before .before .one-byte .ensures) ∙ c .before .before .before .before .before .before .before .before .lane .given .1, le-leb _ _ (c .before .before .before .before .before .before .if1 .left), sym (c .before .before .before .before .before .four-bytes .ensures) ∙ c .before .before .before .arrival .given .1, lt-leb _ _ (c .before .if2 .taken))
+returns-4 c = rw (
+  c .refused4 .ensures,
+  sym (c .before .before .before .before .before .before .before .before .before .before .one-byte .ensures) ∙
+      c .before .before .before .before .before .before .before .before .lane .given .1,
+  le-leb _ _
+      (c .before .before .before .before .before .before .if1 .left),
+  sym (c .before .before .before .before .before .four-bytes .ensures) ∙
+      c .before .before .before .arrival .given .1,
+  lt-leb _ _ (c .before .if2 .taken),
+)
 
 one-byte-requires-2 : tie.Need-one-byte-requires-2
 one-byte-requires-2 c κs = search needs

@@ -33,7 +33,11 @@ refused-requires-2 c κs = search needs
 
 returns-2 : tie.Need-returns-2
 unfolding stepAt taking
-returns-2 c = rw (c .refused2 .ensures, sym (c .before .before .before .before .before .one-byte .ensures) ∙ c .before .before .before .z .given .1, le-ltb _ _ (c .before .if1 .taken))
+returns-2 c = rw (
+  c .refused2 .ensures,
+  sym (c .before .before .before .before .before .one-byte .ensures) ∙ c .before .before .before .z .given .1,
+  le-ltb _ _ (c .before .if1 .taken),
+)
 
 cast-in-route : tie.Need-cast-in-route
 cast-in-route c = search needs
@@ -46,7 +50,14 @@ refused-requires-3 c κs = search needs
 
 returns-3 : tie.Need-returns-3
 unfolding stepAt taking
-returns-3 c = rw (c .refused3 .ensures, sym (c .before .before .before .before .before .before .before .one-byte .ensures) ∙ c .before .before .before .before .before .z .given .1, lt-ltb _ _ (c .before .before .before .if1 .left), sym (c .before .before .in-route .ensures) ∙ c .before .if2 .taken)
+returns-3 c = rw (
+  c .refused3 .ensures,
+  sym (c .before .before .before .before .before .before .before .one-byte .ensures) ∙
+      c .before .before .before .before .before .z .given .1,
+  lt-ltb _ _ (c .before .before .before .if1 .left),
+  sym
+      (c .before .before .in-route .ensures) ∙ c .before .if2 .taken,
+)
 
 two-bytes-requires : tie.Need-two-bytes-requires
 two-bytes-requires c κs = search needs
@@ -62,7 +73,16 @@ refused-requires-4 c κs = search needs
 
 returns-4 : tie.Need-returns-4
 unfolding stepAt taking
-returns-4 c = rw (c .refused4 .ensures, sym (c .before .before .before .before .before .before .before .before .before .before .one-byte .ensures) ∙ c .before .before .before .before .before .before .before .before .z .given .1, lt-ltb _ _ (c .before .before .before .before .before .before .if1 .left), sym (c .before .before .before .before .before .in-route .ensures) ∙ c .before .before .before .before .if2 .left, sym (c .before .before .before .two-bytes .ensures) ∙ c .before .enum-told2 .given .1)
+returns-4 c = rw (
+  c .refused4 .ensures,
+  sym (c .before .before .before .before .before .before .before .before .before .before .one-byte .ensures) ∙
+      c .before .before .before .before .before .before .before .before .z .given .1,
+  lt-ltb _ _
+      (c .before .before .before .before .before .before .if1 .left),
+  sym (c .before .before .before .before .before .in-route .ensures) ∙
+      c .before .before .before .before .if2 .left,
+  sym (c .before .before .before .two-bytes .ensures) ∙ c .before .enum-told2 .given .1,
+)
 
 refused-requires-5 : tie.Need-refused-requires-5
 refused-requires-5 c κs = search needs

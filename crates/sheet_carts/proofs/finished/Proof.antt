@@ -40,7 +40,12 @@ refused-requires-2 : tie.Need-refused-requires-2 Inv-loop μ-loop
 refused-requires-2 c κs = search needs
 
 returns-2 : tie.Need-returns-2 Inv-loop μ-loop
-returns-2 c = λ n. rw (c .refused2 .ensures) (inr (lit< tt, finish-lanes _ _ _ _ (c .before .before .before .before .before .before .if1 .left) ∙ c .before .before .before .before .before .loop .inv .1 n ∙ lanes-refused _ _ _ _ (c .before .before .before .before .loop-test .taken) (sym (c .before .before .before .is-early .ensures) ∙ c .before .before .if2 .taken)))
+returns-2 c = λ n. rw (c .refused2 .ensures) (inr (
+  lit< tt,
+  finish-lanes _ _ _ _ (c .before .before .before .before .before .before .if1 .left) ∙
+      c .before .before .before .before .before .loop .inv .1 n ∙ lanes-refused _ _ _ _ (c .before .before .before .before .loop-test .taken)
+      (sym (c .before .before .before .is-early .ensures) ∙ c .before .before .if2 .taken),
+))
 
 add-i : tie.Need-add-i Inv-loop μ-loop
 add-i c = search needs
@@ -49,13 +54,21 @@ loop-less : tie.Need-loop-less Inv-loop μ-loop
 loop-less c = search needs
 
 loop-again : tie.Need-loop-again Inv-loop μ-loop
-loop-again c = (omega arith, λ n. c .before .before .before .loop .inv .1 n ∙ lanes-next _ _ _ _ (c .before .before .loop-test .taken) (sym (c .before .is-early .ensures) ∙ c .if2 .left))
+loop-again c = (
+  omega arith,
+  λ n. c .before .before .before .loop .inv .1 n ∙ lanes-next _ _ _ _ (c .before .before .loop-test .taken)
+      (sym (c .before .is-early .ensures) ∙ c .if2 .left),
+)
 
 done-requires : tie.Need-done-requires Inv-loop μ-loop
 done-requires c κs = search needs
 
 returns-3 : tie.Need-returns-3 Inv-loop μ-loop
-returns-3 c = λ n. inl (c .done .ensures, finish-lanes _ _ _ _ (c .before .before .before .if1 .left) ∙ c .before .before .loop .inv .1 n ∙ lanes-end _ _ _ _ (c .before .loop-test .left))
+returns-3 c = λ n. inl (
+  c .done .ensures,
+  finish-lanes _ _ _ _ (c .before .before .before .if1 .left) ∙ c .before .before .loop .inv .1 n ∙ lanes-end
+      _ _ _ _ (c .before .loop-test .left),
+)
 
 pub finished-spec : {M : Type 1} → statement M
 finished-spec =

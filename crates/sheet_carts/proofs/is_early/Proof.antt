@@ -37,7 +37,13 @@ arrival-requires-2 : tie.Need-arrival-requires-2 Inv-loop μ-loop
 arrival-requires-2 c κs = search needs
 
 returns : tie.Need-returns Inv-loop μ-loop
-returns c = rw (← c .before .before .before .before .before .before .before .lane .ensures, ← c .before .before .before .before .before .before .arrival .ensures) (sym (any-found _ _ (c .before .before .before .before .before .loop .e) (omega arith) (rw (← c .before .before .before .lane2 .ensures, ← c .before .arrival2 .ensures, eq-eqb _ _ (c .before .before .if1 .taken), lt-ltb _ _ (c .if2 .taken)))))
+returns c = rw (
+  ← c .before .before .before .before .before .before .before .lane .ensures,
+  ←
+      c .before .before .before .before .before .before .arrival .ensures,
+) (sym
+    (any-found _ _ (c .before .before .before .before .before .loop .e) (omega arith)
+    (rw (← c .before .before .before .lane2 .ensures, ← c .before .arrival2 .ensures, eq-eqb _ _ (c .before .before .if1 .taken), lt-ltb _ _ (c .if2 .taken)))))
 
 add-e : tie.Need-add-e Inv-loop μ-loop
 add-e c = search needs
@@ -46,10 +52,16 @@ loop-less : tie.Need-loop-less Inv-loop μ-loop
 loop-less c = search needs
 
 loop-again : tie.Need-loop-again Inv-loop μ-loop
-loop-again c = (omega arith, any-more _ _ (c .before .before .before .loop .inv .1) (rw (← c .before .lane2 .ensures) (⊎-elim (λ w. rw (← w .1 .ensures, eq-eqb _ _ (w .0 .taken), le-ltb _ _ (w .2 .left))) (λ w. rw (ne-eqb _ _ (w .left))) (c .if1 .came))))
+loop-again c = (
+  omega arith,
+  any-more _ _ (c .before .before .before .loop .inv .1)
+      (rw (← c .before .lane2 .ensures) (⊎-elim (λ w. rw (← w .1 .ensures, eq-eqb _ _ (w .0 .taken), le-ltb _ _ (w .2 .left)))
+      (λ w. rw (ne-eqb _ _ (w .left))) (c .if1 .came))),
+)
 
 returns-2 : tie.Need-returns-2 Inv-loop μ-loop
-returns-2 c = let e : c .before .loop .e ≡ c .before .before .before .before .args .i = omega arith in rw (← c .before .before .before .lane .ensures, ← c .before .before .arrival .ensures) (sym (c .before .loop .inv .1) ∙ ap (anyBelow _) e)
+returns-2 c = let e : c .before .loop .e ≡ c .before .before .before .before .args .i = omega arith in rw
+    (← c .before .before .before .lane .ensures, ← c .before .before .arrival .ensures) (sym (c .before .loop .inv .1) ∙ ap (anyBelow _) e)
 
 pub is-early-spec : {M : Type 1} → statement M
 is-early-spec =

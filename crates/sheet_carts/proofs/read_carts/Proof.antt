@@ -16,7 +16,8 @@ finished-requires : tie.Need-finished-requires
 finished-requires c κs = search needs
 
 returns-2 : tie.Need-returns-2
-returns-2 c = left-then sheetRefused (c .before .before .before .before .before .before .scan-carts .ensures) (c .before .before .before .if1 .left) (c .finished .ensures _)
+returns-2 c = left-then sheetRefused (c .before .before .before .before .before .before .scan-carts .ensures) (c .before .before .before .if1 .left)
+    (c .finished .ensures _)
 
 pub read-carts-spec : {M : Type 1} → statement M
 read-carts-spec = tie.close (tie.spec scan-carts-requires returns finished-requires returns-2)

@@ -1,5 +1,6 @@
 -- A valid sheet's parts are in range, so each is copied whole.
-use Rattle.sheet_filling.proofs.Ranges.{follow-entries, cross-entries, lane-entries, arrival-entries, steps-entries, zone-entries, passing-entries, travel-entries}
+use Rattle.sheet_filling.proofs.Ranges.{follow-entries, cross-entries, lane-entries, arrival-entries, steps-entries, zone-entries}
+use Rattle.sheet_filling.proofs.Ranges.{passing-entries, travel-entries}
 use mathlib.Core.Path.{_≡_}
 use native.Mathlib.Omega.{arith}
 use lib.Dec.{lit≤}
@@ -31,7 +32,16 @@ times-of-requires-2 : tie.Need-times-of-requires-2
 times-of-requires-2 c κs = (lit≤ tt, travel-entries _ (c .before .before .before .before .before .before .before .pre))
 
 returns : tie.Need-returns
-returns c = rw (c .before .before .before .before .before .before .before .gaps-of .ensures, c .before .before .before .before .before .before .gaps-of2 .ensures, c .before .before .before .before .before .bytes-of .ensures, c .before .before .before .before .arrivals-of .ensures, c .before .before .before .step-counts .ensures, c .before .before .zones-of .ensures, c .before .times-of .ensures, c .times-of2 .ensures)
+returns c = rw (
+  c .before .before .before .before .before .before .before .gaps-of .ensures,
+  c .before .before .before .before .before .before .gaps-of2 .ensures,
+  c .before .before .before .before .before .bytes-of .ensures,
+  c .before .before .before .before .arrivals-of .ensures,
+  c .before .before .before .step-counts .ensures,
+  c .before .before .zones-of .ensures,
+  c .before .times-of .ensures,
+  c .times-of2 .ensures,
+)
 
 pub sheet-of-spec : {M : Type 1} → statement M
 sheet-of-spec =

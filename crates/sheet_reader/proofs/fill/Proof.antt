@@ -23,19 +23,27 @@ enum-known-opening-2 : tie.Need-enum-known-opening-2
 enum-known-opening-2 c = search needs
 
 read-counts-requires : tie.Need-read-counts-requires
-read-counts-requires c κs = opening-between _ 1 1 24 (lit< tt) _ _ (sym (c .before .before .before .before .read-opening .ensures) ∙ c .before .before .opening2 .given .1) .1
+read-counts-requires c κs = opening-between _ 1 1 24 (lit< tt) _ _ (sym (c .before .before .before .before .read-opening .ensures) ∙
+    c .before .before .opening2 .given .1) .1
 
 returns : tie.Need-returns
-returns c = inr (left-refused sheetRefused (left-whole sheetRefused (begins _ _ _ _ (sym (c .before .before .before .before .before .before .before .before .read-opening .ensures) ∙ c .before .before .before .before .before .before .opening2 .given .1) (c .before .before .before .before .before .before .before .before .before .before .pre)) (c .before .before .before .read-counts .ensures .2)) (c .if1 .taken))
+returns c = inr (left-refused sheetRefused (left-whole sheetRefused (begins _ _ _ _
+    (sym (c .before .before .before .before .before .before .before .before .read-opening .ensures) ∙
+    c .before .before .before .before .before .before .opening2 .given .1) (c .before .before .before .before .before .before .before .before .before .before .pre)) (c .before .before .before .read-counts .ensures .2)) (c .if1 .taken))
 
 read-carts-requires : tie.Need-read-carts-requires
 read-carts-requires c κs = search needs
 
 returns-2 : tie.Need-returns-2
-returns-2 c = let e = sym (c .before .before .before .before .read-opening .ensures) ∙ c .before .before .opening .given .1 in rw (c .no-counts .ensures .0) (inr (opening-refused _ 1 1 24 (lit< tt) _ e, begins-refused _ _ e))
+returns-2 c = let e = sym (c .before .before .before .before .read-opening .ensures) ∙ c .before .before .opening .given .1 in rw
+    (c .no-counts .ensures .0) (inr (opening-refused _ 1 1 24 (lit< tt) _ e, begins-refused _ _ e))
 
 returns-3 : tie.Need-returns-3
-returns-3 c = left-then sheetRefused (left-whole sheetRefused (begins _ _ _ _ (sym (c .before .before .before .before .before .before .before .before .before .before .read-opening .ensures) ∙ c .before .before .before .before .before .before .before .before .opening2 .given .1) (c .before .before .before .before .before .before .before .before .before .before .before .before .pre)) (c .before .before .before .before .before .read-counts .ensures .2)) (c .before .before .if1 .left) (c .read-carts .ensures)
+returns-3 c = left-then sheetRefused (left-whole sheetRefused (begins _ _ _ _
+    (sym (c .before .before .before .before .before .before .before .before .before .before .read-opening .ensures) ∙
+    c .before .before .before .before .before .before .before .before .opening2 .given .1)
+    (c .before .before .before .before .before .before .before .before .before .before .before .before .pre))
+    (c .before .before .before .before .before .read-counts .ensures .2)) (c .before .before .if1 .left) (c .read-carts .ensures)
 
 pub fill-spec : {M : Type 1} → statement M
 fill-spec =

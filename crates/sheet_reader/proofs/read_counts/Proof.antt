@@ -15,7 +15,8 @@ use Rattle.sheet_reader.proofs.read_counts.Statement.{statement}
 use Rattle.sheet_reader.proofs.read_counts.Tie as tie
 
 abbrev Inv-loop : tie.InvT-loop
-Inv-loop s n sheet₀ at₀ z₀ sheet at z = (z ≤ n) × (zonesFrom s n 0 (sheetIn n 0 sheet₀) (record { at = at₀ }) ≡ zonesFrom s (n - z) z (sheetIn n 0 sheet) (record { at = at }))
+Inv-loop s n sheet₀ at₀ z₀ sheet at z = (z ≤ n) × (zonesFrom s n 0 (sheetIn n 0 sheet₀) (record { at = at₀ }) ≡ zonesFrom s (n - z) z
+    (sheetIn n 0 sheet) (record { at = at }))
 
 abbrev μ-loop : tie.MeasureT-loop
 μ-loop s n sheet₀ at₀ z₀ sheet at z = n - z
@@ -40,7 +41,19 @@ no-counts-requires c κs = search needs
 
 returns : tie.Need-returns Inv-loop μ-loop
 unfolding zonesFrom countFrom taking
-returns c = (omega (arith, c .no-counts .ensures .1), omega (arith, c .no-counts .ensures .2), rw (c .no-counts .ensures .0, c .before .refused .ensures) (inr (lit< tt, c .before .before .before .before .before .before .loop .inv .1 ∙ rw (left-suc _ _ (c .before .before .before .before .before .loop-test .taken), sym (c .before .before .before .before .two-bytes .ensures) ∙ c .before .before .enum-told .given .1))))
+returns c = (
+  omega (arith, c .no-counts .ensures .1),
+  omega (arith, c .no-counts .ensures .2),
+  rw
+      (c .no-counts .ensures .0, c .before .refused .ensures) (inr (
+        lit< tt,
+        c .before .before .before .before .before .before .loop .inv .1 ∙ rw (
+          left-suc _ _ (c .before .before .before .before .before .loop-test .taken),
+          sym (c .before .before .before .before .two-bytes .ensures) ∙
+              c .before .before .enum-told .given .1,
+        ),
+      )),
+)
 
 refused-requires-2 : tie.Need-refused-requires-2 Inv-loop μ-loop
 refused-requires-2 c κs = search needs
@@ -50,7 +63,21 @@ no-counts-requires-2 c κs = search needs
 
 returns-2 : tie.Need-returns-2 Inv-loop μ-loop
 unfolding zonesFrom countFrom taking
-returns-2 c = (omega (arith, c .no-counts2 .ensures .1), omega (arith, c .no-counts2 .ensures .2), rw (c .no-counts2 .ensures .0, c .before .refused2 .ensures) (inr (lit< tt, c .before .before .before .before .before .before .before .before .loop .inv .1 ∙ rw (left-suc _ _ (c .before .before .before .before .before .before .before .loop-test .taken), sym (c .before .before .before .before .before .before .two-bytes .ensures) ∙ c .before .before .before .before .follow .given .1, lt-leb _ _ (c .before .before .if1 .taken)))))
+returns-2 c = (
+  omega (arith, c .no-counts2 .ensures .1),
+  omega (arith, c .no-counts2 .ensures .2),
+  rw
+      (c .no-counts2 .ensures .0, c .before .refused2 .ensures) (inr (
+        lit< tt,
+        c .before .before .before .before .before .before .before .before .loop .inv .1 ∙ rw (
+          left-suc _ _ (c .before .before .before .before .before .before .before .loop-test .taken),
+          sym
+              (c .before .before .before .before .before .before .two-bytes .ensures) ∙ c .before .before .before .before .follow .given .1,
+          lt-leb _ _
+              (c .before .before .if1 .taken),
+        ),
+      )),
+)
 
 two-bytes-requires-2 : tie.Need-two-bytes-requires-2 Inv-loop μ-loop
 two-bytes-requires-2 c κs = search needs
@@ -69,7 +96,22 @@ no-counts-requires-3 c κs = search needs
 
 returns-3 : tie.Need-returns-3 Inv-loop μ-loop
 unfolding zonesFrom countFrom taking
-returns-3 c = (omega (arith, c .no-counts3 .ensures .1), omega (arith, c .no-counts3 .ensures .2), rw (c .no-counts3 .ensures .0, c .before .refused3 .ensures) (inr (lit< tt, c .before .before .before .before .before .before .before .before .before .before .before .loop .inv .1 ∙ rw (left-suc _ _ (c .before .before .before .before .before .before .before .before .before .before .loop-test .taken), sym (c .before .before .before .before .before .before .before .before .before .two-bytes .ensures) ∙ c .before .before .before .before .before .before .before .follow .given .1, le-leb _ _ (c .before .before .before .before .before .if1 .left), sym (c .before .before .before .before .two-bytes2 .ensures) ∙ c .before .before .enum-told2 .given .1))))
+returns-3 c = (
+  omega (arith, c .no-counts3 .ensures .1),
+  omega (arith, c .no-counts3 .ensures .2),
+  rw
+      (c .no-counts3 .ensures .0, c .before .refused3 .ensures) (inr (
+        lit< tt,
+        c .before .before .before .before .before .before .before .before .before .before .before .loop .inv .1 ∙ rw (
+          left-suc _ _ (c .before .before .before .before .before .before .before .before .before .before .loop-test .taken),
+          sym
+              (c .before .before .before .before .before .before .before .before .before .two-bytes .ensures) ∙
+              c .before .before .before .before .before .before .before .follow .given .1,
+          le-leb _ _ (c .before .before .before .before .before .if1 .left),
+          sym (c .before .before .before .before .two-bytes2 .ensures) ∙ c .before .before .enum-told2 .given .1,
+        ),
+      )),
+)
 
 refused-requires-4 : tie.Need-refused-requires-4 Inv-loop μ-loop
 refused-requires-4 c κs = search needs
@@ -79,7 +121,26 @@ no-counts-requires-4 c κs = search needs
 
 returns-4 : tie.Need-returns-4 Inv-loop μ-loop
 unfolding zonesFrom countFrom taking
-returns-4 c = (omega (arith, c .no-counts4 .ensures .1), omega (arith, c .no-counts4 .ensures .2), rw (c .no-counts4 .ensures .0, c .before .refused4 .ensures) (inr (lit< tt, c .before .before .before .before .before .before .before .before .before .before .before .before .before .loop .inv .1 ∙ rw (left-suc _ _ (c .before .before .before .before .before .before .before .before .before .before .before .before .loop-test .taken), sym (c .before .before .before .before .before .before .before .before .before .before .before .two-bytes .ensures) ∙ c .before .before .before .before .before .before .before .before .before .follow .given .1, le-leb _ _ (c .before .before .before .before .before .before .before .if1 .left), sym (c .before .before .before .before .before .before .two-bytes2 .ensures) ∙ c .before .before .before .before .cross .given .1, lt-leb _ _ (c .before .before .if2 .taken)))))
+returns-4 c = (
+  omega (arith, c .no-counts4 .ensures .1),
+  omega (arith, c .no-counts4 .ensures .2),
+  rw
+      (c .no-counts4 .ensures .0, c .before .refused4 .ensures) (inr (
+        lit< tt,
+        c .before .before .before .before .before .before .before .before .before .before .before .before .before .loop .inv .1 ∙ rw (
+          left-suc _ _ (c .before .before .before .before .before .before .before .before .before .before .before .before .loop-test .taken),
+          sym
+              (c .before .before .before .before .before .before .before .before .before .before .before .two-bytes .ensures) ∙
+              c .before .before .before .before .before .before .before .before .before .follow .given .1,
+          le-leb _ _
+              (c .before .before .before .before .before .before .before .if1 .left),
+          sym
+              (c .before .before .before .before .before .before .two-bytes2 .ensures) ∙ c .before .before .before .before .cross .given .1,
+          lt-leb _ _
+              (c .before .before .if2 .taken),
+        ),
+      )),
+)
 
 put-gaps-requires : tie.Need-put-gaps-requires Inv-loop μ-loop
 put-gaps-requires c κs = search needs
@@ -92,7 +153,11 @@ loop-less c = search needs
 
 loop-again : tie.Need-loop-again Inv-loop μ-loop
 unfolding zonesFrom countFrom taking
-loop-again c = (omega arith, c .before .before .before .before .before .before .before .before .before .before .before .before .before .loop .inv .1 ∙ zones-next _ _ _ _ _ _ _ _ _ _ (c .before .before .before .before .before .before .before .before .before .before .before .before .loop-test .taken) (sym (c .before .before .before .before .before .before .before .before .before .before .before .two-bytes .ensures) ∙ c .before .before .before .before .before .before .before .before .before .follow .given .1) (c .before .before .before .before .before .before .before .if1 .left) (sym (c .before .before .before .before .before .before .two-bytes2 .ensures) ∙ c .before .before .before .before .cross .given .1) (c .before .before .if2 .left) (c .put-gaps .ensures _ _))
+loop-again c = (
+  omega arith,
+  c .before .before .before .before .before .before .before .before .before .before .before .before .before .loop .inv .1
+      ∙ zones-next _ _ _ _ _ _ _ _ _ _ (c .before .before .before .before .before .before .before .before .before .before .before .before .loop-test .taken) (sym (c .before .before .before .before .before .before .before .before .before .before .before .two-bytes .ensures) ∙ c .before .before .before .before .before .before .before .before .before .follow .given .1) (c .before .before .before .before .before .before .before .if1 .left) (sym (c .before .before .before .before .before .before .two-bytes2 .ensures) ∙ c .before .before .before .before .cross .given .1) (c .before .before .if2 .left) (c .put-gaps .ensures _ _),
+)
 
 one-byte-requires : tie.Need-one-byte-requires Inv-loop μ-loop
 one-byte-requires c κs = search needs
@@ -111,7 +176,19 @@ no-counts-requires-5 c κs = search needs
 
 returns-5 : tie.Need-returns-5 Inv-loop μ-loop
 unfolding zonesFrom countFrom taking
-returns-5 c = (omega (arith, c .no-counts5 .ensures .1), omega (arith, c .no-counts5 .ensures .2), rw (c .no-counts5 .ensures .0, c .before .refused5 .ensures) (inr (lit< tt, c .before .before .before .before .before .before .loop .inv .1 ∙ rw (left-zero _ _ (c .before .before .before .before .before .loop-test .left), sym (c .before .before .before .before .one-byte .ensures) ∙ c .before .before .enum-told3 .given .1))))
+returns-5 c = (
+  omega (arith, c .no-counts5 .ensures .1),
+  omega (arith, c .no-counts5 .ensures .2),
+  rw
+      (c .no-counts5 .ensures .0, c .before .refused5 .ensures) (inr (
+        lit< tt,
+        c .before .before .before .before .before .before .loop .inv .1 ∙ rw (
+          left-zero _ _ (c .before .before .before .before .before .loop-test .left),
+          sym (c .before .before .before .before .one-byte .ensures) ∙
+              c .before .before .enum-told3 .given .1,
+        ),
+      )),
+)
 
 refused-requires-6 : tie.Need-refused-requires-6 Inv-loop μ-loop
 refused-requires-6 c κs = search needs
@@ -121,7 +198,21 @@ no-counts-requires-6 c κs = search needs
 
 returns-6 : tie.Need-returns-6 Inv-loop μ-loop
 unfolding zonesFrom countFrom taking
-returns-6 c = (omega (arith, c .no-counts6 .ensures .1), omega (arith, c .no-counts6 .ensures .2), rw (c .no-counts6 .ensures .0, c .before .refused6 .ensures) (inr (lit< tt, c .before .before .before .before .before .before .before .before .loop .inv .1 ∙ rw (left-zero _ _ (c .before .before .before .before .before .before .before .loop-test .left), sym (c .before .before .before .before .before .before .one-byte .ensures) ∙ c .before .before .before .before .m .given .1, lt-leb _ _ (c .before .before .if3 .taken)))))
+returns-6 c = (
+  omega (arith, c .no-counts6 .ensures .1),
+  omega (arith, c .no-counts6 .ensures .2),
+  rw
+      (c .no-counts6 .ensures .0, c .before .refused6 .ensures) (inr (
+        lit< tt,
+        c .before .before .before .before .before .before .before .before .loop .inv .1 ∙ rw (
+          left-zero _ _ (c .before .before .before .before .before .before .before .loop-test .left),
+          sym
+              (c .before .before .before .before .before .before .one-byte .ensures) ∙ c .before .before .before .before .m .given .1,
+          lt-leb _ _
+              (c .before .before .if3 .taken),
+        ),
+      )),
+)
 
 done-requires : tie.Need-done-requires Inv-loop μ-loop
 done-requires c κs = search needs
@@ -131,7 +222,19 @@ cast-t29 c = search needs
 
 returns-7 : tie.Need-returns-7 Inv-loop μ-loop
 unfolding zonesFrom countFrom taking
-returns-7 c = (c .before .before .before .before .before .before .before .before .before .pre, omega arith, inl (c .done .ensures, c .before .before .before .before .before .before .before .loop .inv .1 ∙ rw (left-zero _ _ (c .before .before .before .before .before .before .loop-test .left), sym (c .before .before .before .before .before .one-byte .ensures) ∙ c .before .before .before .m .given .1, le-leb _ _ (c .before .if3 .left))))
+returns-7 c = (
+  c .before .before .before .before .before .before .before .before .before .pre,
+  omega arith,
+  inl (
+    c .done .ensures,
+    c .before .before .before .before .before .before .before .loop .inv .1 ∙ rw (
+      left-zero _ _ (c .before .before .before .before .before .before .loop-test .left),
+      sym
+          (c .before .before .before .before .before .one-byte .ensures) ∙ c .before .before .before .m .given .1,
+      le-leb _ _ (c .before .if3 .left),
+    ),
+  ),
+)
 
 pub read-counts-spec : {M : Type 1} → statement M
 read-counts-spec =

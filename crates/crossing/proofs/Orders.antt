@@ -27,11 +27,10 @@ use Rattle.plan.specs.Written.{count, listed}
 use Rattle.plan.specs.Valid.{passingList, ahead, Shaped, ValidEntry, ValidOrders}
 use Rattle.plan.specs.declared.Orders.{Orders}
 use Rattle.plan.proofs.Visitors.{count-values, visitors-most, step-cart, step-valid, steps-most, visitor-cart}
 use Rattle.crossing.specs.inner.Tables.{crossingBy}
-use Rattle.crossing.specs.Plans.{routesOf, listsOf}
+use Rattle.crossing.specs.Plans.{routesOf, listsOf, ordersBy}
 use Rattle.crossing.proofs.Tables.{steps-is, zone-is}
 use Rattle.crossing.proofs.Sheets.{step-is}
-use Rattle.planner.specs.Planning.{ordersBy}
 
 module _ (sheet : Sheet) (v : Valid sheet) where
   -- the route of a cart names the zones that it visits

@@ -14,7 +14,7 @@ use Rattle.moves.proofs.Moves.{permitted-says}
 use Rattle.routes.specs.Crossing.{Crossing, steps, zone}
 use Rattle.routes.specs.Moves.{movesOf, system}
 use Rattle.routes.proofs.Moves.{moves-some}
-use Rattle.crossing.specs.inner.Tables.{sheetCrossing}
+use Rattle.crossing.specs.inner.Tables.{sheetFronts, sheetCrossing}
 use Rattle.crossing.specs.Plans.{sheetGiven}
 use Rattle.crossing.specs.inner.Sound.{Sound}
 use Rattle.crossing.proofs.Tables.{steps-is}
@@ -35,7 +35,7 @@ use Rattle.moving_record.specs.declared.Tested.{Tested}
 use Rattle.moving_record.proofs.Few.{reached-few}
 use Rattle.judge.specs.Judging.{planSystem, isOut}
 use Rattle.judge.proofs.Verdict.{out-at}
-use Rattle.moving_asking.specs.inner.Tables.{WantsZone, notGone, noMove}
+use Rattle.moving_asking.specs.inner.Tables.{WantsZone, heldBy, noMove}
 use Rattle.moving_asking.specs.Asking.{hasMoved}
 use Rattle.moving_asking.specs.inner.Held.{askOf}
 use Rattle.moving_asking.proofs.Ahead.{ahead-counted}
@@ -50,7 +50,7 @@ module _ (sheet : Sheet) (orders : Orders) (v : Valid sheet) (w : ValidOrders sh
   sound : Sound X (sheetGiven sheet)
   sound = plan-sound sheet v orders w
 
-  pub sheet-orderly : Orderly (sheet .steps) (sheet .zone) (orders .ahead)
+  pub sheet-orderly : Orderly (sheet .steps) (sheet .zone) (sheet .lane) (orders .ahead)
   sheet-orderly = record {
     steps-16 = v .shaped .steps-16;
     once = sound .once;
@@ -77,7 +77,7 @@ module _ (sheet : Sheet) (orders : Orders) (v : Valid sheet) (w : ValidOrders sh
         is-reached = sym reached-is ∙ reached
 
         pub made-few : lent .made ≤ 144
-        made-few = reached-few (sheet .steps) (sheet .zone) (orders .ahead) sheet-orderly lent (sym (test .reached-is) ∙ reached)
+        made-few = reached-few (sheet .steps) (sheet .zone) (sheet .lane) (orders .ahead) sheet-orderly lent (sym (test .reached-is) ∙ reached)
 
         pub absent-is : sheet .carts ≤ cart → noMove (refused 24 0) 0 ≡ askOf sheet orders lent cart
         unfolding firstFailing
@@ -141,12 +141,13 @@ module _ (sheet : Sheet) (orders : Orders) (v : Valid sheet) (w : ValidOrders sh
                 wants = go (decLt p k)
                   where
                     counted : steps X cart ≡ k
-                    counted = steps-is (sheet .steps) (sheet .zone) (orders .ahead) cart cart-few
+                    counted = steps-is (sheet .steps) (sheet .zone) (sheetFronts sheet) (orders .ahead) cart cart-few
 
                     go : Dec (p < k) → p < k
                     go (yes h) = h
                     go (no n) =
-                        let m = out-permitted (sheet .steps) (sheet .zone) (orders .ahead) (sound .once) (sound .only) (lent .position) cart cart-few
+                        let m = out-permitted (sheet .steps) (sheet .zone) (sheetFronts sheet) (orders .ahead) (sound .once) (sound .only) (lent .position)
+                        cart cart-few
                         (omega (arith, counted, v .cart cart present .steps-least)) (omega (arith, n, inside, counted)) in
                         absurd (false≢true (sym held ∙ says .1 m))
 
@@ -157,7 +158,7 @@ module _ (sheet : Sheet) (orders : Orders) (v : Valid sheet) (w : ValidOrders sh
                   known = omega (arith, step-valid sheet v cart p wants .zone-below, v .zones-most);
                 }
 
-                pub held-is : (n : ℕ) → n ≡ notGone (sheet .zone) (orders .ahead) (lent .position) (tested .left) cart
+                pub held-is : (n : ℕ) → n ≡ heldBy X (sheet .zone) (orders .ahead) (lent .position) (tested .left) cart
                     → noMove (refused 26 0) n ≡ askOf sheet orders lent cart
                 unfolding firstFailing
                 held-is n is =

@@ -100,5 +100,6 @@ module _ (sheet : Sheet) (v : Valid sheet) (orders : Orders) (w : ValidOrders sh
     pub ahead-counted : countBelow 16 (λ d. has (getD (orders .ahead) (8 * c + p) 0) d && not (has left d)) + bit (laneHolds X at c)
         ≡ aheadOf (planCrossing sheet orders .front) (routesOf sheet) (listsOf sheet orders) at c
     unfolding aheadOf crossingBy
-    ahead-counted = rw (here, plan-fronts sheet v orders w c (omega (arith, inside)))
+    ahead-counted =
+        rw (here, plan-fronts sheet v orders w c (omega (arith, inside)))
         (ap (λ (n : ℕ). n + bit (laneHolds (planCrossing sheet orders) at c)) listed-counted)

@@ -1,5 +1,5 @@
 -- What each way out of the test says.
-use Prim.Native.Nat.{ℕ, _<_}
+use Prim.Native.Nat.{ℕ}
 use mathlib.Core.Path.{_≡_, refl, sym, _∙_}
 use mathlib.Core.Bool.{Bool, true, false, false≢true}
 use mathlib.Core.List.{List}
@@ -12,7 +12,7 @@ use Rattle.sheet_table.specs.inner.Parts.{steps, zone, lane}
 use Rattle.plan.specs.Valid.{sumBelow}
 use Rattle.plan_lists.specs.inner.Sets.{whoVisits}
 use Rattle.judge_entering.specs.inner.Lanes.{lanesOf, frontAt}
-use Rattle.judge_entering.proofs.LaneLaws.{front-entry}
+use Rattle.judge_entering.proofs.Holding.{front-told}
 use Rattle.moving_record.specs.Record.{isReached}
 use Rattle.moving_record.specs.inner.Tables.{NonePastOut, zonesLeft, AllInTurn, AllInLine, notReached, Orderly, TestedAs}
 use Rattle.moving_record.specs.declared.Record.{Record}
@@ -48,14 +48,12 @@ module _ (sheet ahead : List ℕ) (orderly : Orderly (steps sheet) (zone sheet) 
 
   -- who is in front, by the lanes' table
   module _ (lanes : List ℕ) (are : lanes ≡ lanesOf sheet) where
-    told : (c : ℕ) → c < 16 → frontAt lanes c ≡ getD (frontsOf sheet) c 0
-    told c l = rw are (front-entry sheet c l)
-
     pub out-of-line : ¬ (AllInLine (frontAt lanes) at) → TestedAs X lent notReached
-    out-of-line none = refuted (λ st. none (λ c l. rw (told c l) (closed-lines (steps sheet) (zone sheet) (lane sheet) ahead at (st .closed) c l)))
+    out-of-line none =
+        refuted (λ st. none (λ c l. rw (front-told sheet lanes are c l) (closed-lines (steps sheet) (zone sheet) (lane sheet) ahead at (st .closed) c l)))
 
     in-line : AllInLine (frontAt lanes) at → AllInLine (λ c. getD (frontsOf sheet) c 0) at
-    in-line lines c l = rw (told c l) at (lines c l)
+    in-line lines c l = rw (front-told sheet lanes are c l) at (lines c l)
 
   module _ (range : NonePastOut (steps sheet) at) (gone : List ℕ) (is-gone : gone ≡ zonesLeft at)
       (left : List ℕ) (is : left ≡ whoVisits gone (zone sheet)) where

@@ -48,8 +48,11 @@ ring-of-requires c κs = (
         (c .before .before .before .before .before .before .before .before .before .before .before .before .args .ahead .now))
         (c .before .before .before .before .before .before .before .before .before .before .before .before .pre .valid-orders);
   },
-  c .before .before .before .before .before .before .before .before .verdict-of .ensures .one-stuck
-      (not-true _ (c .before .before .before .before .before .before .if1 .taken)),
+  omega (
+    arith,
+    c .before .before .before .before .before .before .before .before .verdict-of .ensures .one-stuck
+        (not-true _ (c .before .before .before .before .before .before .if1 .taken)),
+  ),
 )
 
 refused-requires : tie.Need-refused-requires

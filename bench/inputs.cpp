@@ -6,6 +6,7 @@
 #include <random>
 
 using yardstick::CartSet;
+using yardstick::Lanes;
 using yardstick::only;
 using yardstick::Orders;
 using yardstick::Sheet;
@@ -79,17 +80,19 @@ class Maker {
   }
 
   // So many random permitted moves from the start, or fewer if none is left.
-  oblakosh_record record_after(const Sheet& sheet, const Orders& orders, unsigned moves) {
+  oblakosh_record record_after(const Sheet& sheet, const Lanes& lanes, const Orders& orders, unsigned moves) {
     oblakosh_record record = {};
-    CartSet left[24] = {};
+    CartSet left[24] = {}, waiting = only(sheet.carts) - 1;
     while (record.made < moves) {
       std::vector<unsigned> free;
       for (unsigned c = 0; c < sheet.carts; ++c) {
         const unsigned at = record.position[c], x = 8 * c + at;
+        if (at == 0 && (lanes.same[c] & (only(c) - 1) & waiting)) continue;
         if (at == sheet.steps[c] || (at < sheet.steps[c] && !(orders.ahead[x] & ~left[sheet.zone[x]]))) free.push_back(c);
       }
       if (free.empty()) break;
       const unsigned c = free[below(static_cast<unsigned>(free.size()))];
+      waiting &= ~only(c);
       if (record.position[c] != 0) left[sheet.zone[8 * c + record.position[c] - 1]] |= only(c);
       ++record.position[c];
       ++record.made;
@@ -176,8 +179,8 @@ std::vector<Input> make_inputs(const Size& size, unsigned count, Plans plans) {
     const auto read = yardstick::read_plan(lent(input.sheet_bytes), lent(input.plan_bytes), input.sheet, input.lanes, input.orders);
     if (read.number != 0) std::abort();
     fill_table(input.sheet, input.table);
-    if (plans == Plans::accepted && yardstick::is_locked(input.sheet, input.orders.ahead)) std::abort();
-    input.record = maker.record_after(input.sheet, input.orders, maker.below(yardstick::moves_of(input.sheet.steps)));
+    if (plans == Plans::accepted && yardstick::is_locked(input.sheet, input.lanes, input.orders.ahead)) std::abort();
+    input.record = maker.record_after(input.sheet, input.lanes, input.orders, maker.below(yardstick::moves_of(input.sheet.steps)));
     input.cart = maker.below(size.carts);
   }
   return inputs;
@@ -202,7 +205,7 @@ Input spoiled(Input input, unsigned seed) {
 
 Input asked_otherwise(Input input, unsigned seed) {
   Maker maker(seed);
-  input.record = maker.record_after(input.sheet, input.orders, maker.below(yardstick::moves_of(input.sheet.steps) + 1));
+  input.record = maker.record_after(input.sheet, input.lanes, input.orders, maker.below(yardstick::moves_of(input.sheet.steps) + 1));
   input.cart = maker.below(17);
   const unsigned c = maker.below(16);
   switch (maker.below(6)) {

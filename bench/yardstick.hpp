@@ -1,4 +1,4 @@
-// The yardstick: reading, judging, moving and planning as document 01 says, written by hand in C++ and tuned, with bit sets and no
+// The yardstick: reading, judging, moving and planning as documents 01 and 02 say, written by hand in C++ and tuned, with bit sets and no
 // proof. The proved code is measured against it. Carts, zones and steps count from 0; step j of cart i stands at 8 * i + j.
 #pragma once
 

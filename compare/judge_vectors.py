@@ -52,6 +52,12 @@ def one_zone(times):
     return [(gap, gap)], carts, [[2, 0, 1]]
 
 
+def one_lane(routes, *others):
+    """Carts of lane 0 with these routes over three zones, and others of lane 1."""
+    carts = [(lane, 0, route(zones)) for lane, ways in enumerate([routes, others]) for zones in ways]
+    return [(100, 300)] * 3, carts
+
+
 CASES = [
     ('done', 'no carts: 0 moves, finish 0', ([(0, 0)], [], [[]])),
     ('done', 'one cart of one step', ([(5, 7)], [(3, 40, route([0], 9))], [[0]])),
@@ -67,6 +73,12 @@ CASES = [
         ([(0, 0)] * 3, [(0, 0, route([0])), (1, 0, route([1, 2])), (2, 0, route([2, 1, 0]))], [[2, 0], [1, 2], [2, 1]])),
     ('done', '16 carts of 8 steps over 24 zones', crowd()),
     ('done', 'all times as large as they may be: finish 18,900,000', late()),
+    ('done', 'three on a lane, no zone in common: the stop line lets them enter at once, and no gap is kept', (*one_lane([[0], [1], [2]]), [[0], [1], [2]])),
+    ('done', 'the first of a lane waits for its zone, and the two behind it at the stop line', (*one_lane([[0], [1], [2]], [0]), [[3, 0], [1], [2]])),
+    ('22 at 0', 'locked by the stop line alone: a ring over the lane', (*one_lane([[0], [1]], [1, 0]), [[2, 0], [1, 2], []])),
+    ('22 at 0', 'a ring back along a lane of three', (*one_lane([[0], [1], [2]], [2, 0]), [[3, 0], [1], [2, 3]])),
+    ('22 at 0', 'cart 1 is held by the lane and in its zone: it points to the front cart', (*one_lane([[0], [1, 2]], [2, 0], [1]), [[2, 0], [3, 1], [1, 2]])),
+    ('done', 'the same carts, and no ring: cart 3 waits at the stop line for cart 2', (*one_lane([[0], [1, 2]], [2, 0], [1]), [[0, 2], [1, 3], [1, 2]])),
 ]
 
 

@@ -1,4 +1,4 @@
-"""Judges plans as document 01 says, in the plainest form: makes moves until none is left, and works the times out along them.
+"""Judges plans as document 01 and #102 say, in the plainest form: makes moves until none is left, and works the times out along them.
 
 `shown` is what our judge program prints of a sheet and a plan; programs.py compares it with that.
 """
@@ -15,11 +15,21 @@ def ahead_of(lists, zone, number):
     return lists[zone][:lists[zone].index(number)]
 
 
+def fronts_of(carts, number):
+    """The next lower-numbered cart of a cart's lane, or nothing."""
+    return [other for other in range(number) if carts[other]['lane'] == carts[number]['lane']][-1:]
+
+
+def holding_lane(carts, at, number):
+    """The front cart while it keeps this one behind the stop line, or nothing."""
+    return [front for front in fronts_of(carts, number) if at[number] == 0 and at[front] == 0]
+
+
 def may_move(carts, lists, at, number):
     route = carts[number]['route']
     if at[number] == len(route):
         return True
-    if at[number] > len(route):
+    if at[number] > len(route) or holding_lane(carts, at, number):
         return False
     zone = route[at[number]][0]
     return all(left_at(carts[other], zone) <= at[other] for other in ahead_of(lists, zone, number))
@@ -48,7 +58,7 @@ def entering(gaps, carts, lists, entered, number, step):
     cart = carts[number]
     zone = cart['route'][step][0]
     if step == 0:
-        times = [cart['arrival']]
+        times = [cart['arrival']] + [entered[front, 0] for front in fronts_of(carts, number)]
     else:
         _, passing, travel = cart['route'][step - 1]
         times = [entered[number, step - 1] + passing + travel]
@@ -76,7 +86,8 @@ def ring_of(carts, lists, at):
         return carts[number]['route'][at[number]][0]
 
     def points_to(number):
-        return next(other for other in lists[wanted(number)] if at[other] < left_at(carts[other], wanted(number)))
+        listed = [other for other in lists[wanted(number)] if at[other] < left_at(carts[other], wanted(number))]
+        return (holding_lane(carts, at, number) + listed)[0]
 
     met = [stuck[0]]
     while points_to(met[-1]) not in met:

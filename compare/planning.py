@@ -1,19 +1,25 @@
-"""Plans sheets by document 01's removal rule, in the plainest form: pairs, orders present, times, spare times, costs, groups.
+"""Plans sheets by document 01's removal rule with #102's stop line, in the plainest form: pairs, orders present, times, spare times,
+costs, groups; and by #101's two other rules.
 
 `printed` is what our planner program writes for a sheet; programs.py compares it with that.
 """
+import itertools
+
 import plans
 import sheets
 
 
 class Crossing:
-    """A sheet's gaps and carts, with ranks and pairs, and the orders decided so far."""
+    """A sheet's gaps and carts, with ranks and pairs, the carts next in front and behind on the lane, if any, and the orders decided so far."""
 
     def __init__(self, gaps, carts):
         self.gaps, self.carts = gaps, carts
         by_rank = sorted(range(len(carts)), key=lambda cart: (carts[cart]['arrival'], cart))
         self.rank = [by_rank.index(cart) for cart in range(len(carts))]
         self.step = [{step[0]: place for place, step in enumerate(cart['route'])} for cart in carts]
+        lanes = [[other for other in range(len(carts)) if self.same_lane(cart, other)] for cart in range(len(carts))]
+        self.front = [[other for other in lanes[cart] if other < cart][-1:] for cart in range(len(carts))]
+        self.rear = [[other for other in lanes[cart] if cart < other][:1] for cart in range(len(carts))]
         shared = [(zone, a, b) for zone in range(len(gaps)) for b in range(len(carts)) for a in range(b)
                   if zone in self.step[a] and zone in self.step[b]]
         self.pairs = [pair for pair in shared if not self.same_lane(*pair[1:])]
@@ -61,8 +67,17 @@ class Crossing:
         route = self.carts[cart]['route']
         if at[cart] >= len(route):
             return at[cart] == len(route)
+        if at[cart] == 0 and any(at[front] == 0 for front in self.front[cart]):
+            return False
         zone = route[at[cart]][0]
         return all(self.step[other][zone] + 2 <= at[other] for other in ahead.get((zone, cart), []))
+
+    def ready(self, enter, cart, place):
+        """When a cart could enter a step if no zone were taken."""
+        if place == 0:
+            return max([self.carts[cart]['arrival']] + [enter[front, 0] for front in self.front[cart]])
+        _, passing, travel = self.carts[cart]['route'][place - 1]
+        return enter[cart, place - 1] + passing + travel
 
     def times(self, orders):
         """Entering and leaving times of each step, the finish, and the spare times."""
@@ -73,9 +88,8 @@ class Crossing:
             route = self.carts[cart]['route']
             if place < len(route):
                 zone = route[place][0]
-                ready = self.carts[cart]['arrival'] if place == 0 else enter[cart, place - 1] + route[place - 1][1] + route[place - 1][2]
                 clear = [leave[other, self.step[other][zone]] + self.gap(zone, other, cart) for other in ahead.get((zone, cart), [])]
-                enter[cart, place] = max([ready] + clear)
+                enter[cart, place] = max([self.ready(enter, cart, place)] + clear)
             if place > 0:
                 leave[cart, place - 1] = enter[cart, place] - route[place - 1][2] if place < len(route) else enter[cart, place - 1] + route[place - 1][1]
         finish, spare = max(leave.values(), default=0), {}
@@ -84,7 +98,10 @@ class Crossing:
             if place < len(route):
                 zone = route[place][0]
                 own = spare[cart, place + 1] if place + 1 < len(route) else finish - leave[cart, place]
-                spare[cart, place] = min([own] + [spare[other, self.step[other][zone]] for other in behind.get((zone, cart), [])])
+                steps_behind = [(other, self.step[other][zone]) for other in behind.get((zone, cart), [])]
+                if place == 0:
+                    steps_behind += [(rear, 0) for rear in self.rear[cart]]
+                spare[cart, place] = min([own] + [spare[step] for step in steps_behind])
         return enter, finish, spare
 
     def candidates(self, low, high, trial):
@@ -123,10 +140,24 @@ class Crossing:
         else:
             self.decided.update(trial)
 
-    def lists(self):
+    def listed(self, key):
+        """Each zone's visitors in the order of a key of zone and cart."""
+        return [sorted(plans.visitors_of(zone, self.carts), key=lambda cart: key(zone, cart)) for zone in range(len(self.gaps))]
+
+    def by_removal(self):
         self.solve(0, len(self.carts))
         ahead = ahead_in(self.present(len(self.carts), len(self.carts), {}))
-        return [sorted(plans.visitors_of(zone, self.carts), key=lambda cart: len(ahead.get((zone, cart), []))) for zone in range(len(self.gaps))]
+        return self.listed(lambda zone, cart: len(ahead.get((zone, cart), [])))
+
+    def by_arrival(self):
+        return self.listed(lambda zone, cart: self.rank[cart])
+
+    def by_the_better(self):
+        """The lists that finish earlier, the removal rule's if equal."""
+        return min([self.by_removal(), self.by_arrival()], key=self.finish)
+
+    def finish(self, lists):
+        return self.times([(zone, *pair) for zone, passing in enumerate(lists) for pair in itertools.combinations(passing, 2)])[1]
 
 
 def ahead_in(orders):
@@ -137,9 +168,12 @@ def ahead_in(orders):
     return ahead
 
 
-def printed(sheet):
-    """What our planner program writes for a sheet: the plan on standard output, or the refusal on standard error."""
+RULES = {'': Crossing.by_removal, 'first': Crossing.by_arrival, 'better': Crossing.by_the_better}
+
+
+def printed(sheet, word=''):
+    """What our planner program writes for a sheet with this word: the plan on standard output, or the refusal on standard error."""
     number, place, gaps, carts = sheets.read(sheet)
     if number:
         return b'', b'refused %d at %d\n' % (number, place)
-    return plans.written(Crossing(gaps, carts).lists()), b''
+    return plans.written(RULES[word](Crossing(gaps, carts))), b''

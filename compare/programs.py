@@ -1,11 +1,12 @@
 #!/usr/bin/env python3
-"""Compares our proved programs with sheets.py, plans.py, judging.py and planning.py, which follow document 01 in a form of their own.
+"""Compares our proved programs with sheets.py, plans.py, judging.py and planning.py, which follow documents 01 and 02 in a form of their own.
 
 programs.py sheet FILE     prints what the program sheet_main must print for the sheet in FILE
 programs.py judge FILE     prints what the program judge_main must print for the sheet and plan in FILE
 programs.py lines FILE..   prints what the program vectors must print for these texts, with a sheet or a sheet and a plan a line
 programs.py check VECTORS JUDGE PLANNER   compares the stored output of all, then runs these programs on random sheets and plans and odd inputs
 """
+import itertools
 import os
 import random
 import re
@@ -155,13 +156,13 @@ def check_inputs(program):
     print('judge program: %d inputs as expected' % len(inputs))
 
 
-def run_planner(program, sheet):
-    ran = subprocess.run([program], input=sheet, stdout=subprocess.PIPE, stderr=subprocess.PIPE, check=True)
+def run_planner(program, sheet, *words):
+    ran = subprocess.run([program, *words], input=sheet, stdout=subprocess.PIPE, stderr=subprocess.PIPE, check=True)
     return ran.stdout, ran.stderr
 
 
 def check_planner(program):
-    """The planner program on the stored sheets, on random ones, and on every kind of sheet that is refused."""
+    """The planner program on the stored sheets; with each of its words on random ones, and on every kind of sheet that is refused."""
     stored = [line.split() for line in read_text('compare/planned.txt').split('\n') if line and not line.startswith('#')]
     for sheet, plan in stored:
         compare(plan, run_planner(program, bytes.fromhex(sheet))[0].hex(), '%s on %s' % (program, sheet))
@@ -169,9 +170,9 @@ def check_planner(program):
     small = [sheet for sheet in (sheets.a_sheet(rng) for _ in range(400)) if sum(len(cart[2]) for cart in sheet[1]) <= 20]
     cases = [sheets.written(sheets.fields_of(*sheet)) for sheet in small]
     cases += [case[0] for _, case in cases_of(read_text(DATA[0])) if sheets.read(case[0])[0]]
-    for sheet in cases:
-        wanted, got = planning.printed(sheet), run_planner(program, sheet)
-        compare(repr(wanted), repr(got), '%s on %s' % (program, sheet[:100].hex()))
+    for sheet, word in itertools.product(cases, planning.RULES):
+        wanted, got = planning.printed(sheet, word), run_planner(program, sheet, *word.split())
+        compare(repr(wanted), repr(got), '%s %s on %s' % (program, word, sheet[:100].hex()))
     print('planner program: %d stored and %d other sheets as expected' % (len(stored), len(cases)))
 
 

@@ -8,8 +8,8 @@
    both. liblinked_judge.a and liboblakosh.a are not linked into one program: they export the same three names, and
    liboblakosh.a has all that the other has. Of the C library they need memcpy and memset.
 
-   What is proved. Every function takes every byte string and number, ends, and answers what document 01 says: done, or
-   the first check that fails. On refusal every other part of the answer is 0, but for the ring that comes with 22 and the
+   What is proved. Every function takes every byte string and number, ends, and answers what documents 01 and 02 say: done,
+   or the first check that fails. On refusal every other part of the answer is 0, but for the ring that comes with 22 and the
    number of carts ahead that comes with 26, and lent memory is unchanged.
 
    What is assumed. Nothing here tests a pointer; the caller sees to it that, until the function returns,
@@ -67,11 +67,11 @@ enum oblakosh_number {
     OBLAKOSH_LISTED = 19,             /* a zone's count isn't the number of carts that visit it, or a listed cart doesn't visit it or is listed twice there; place: field */
     OBLAKOSH_PLAN_BYTES_AFTER = 20,   /* bytes after the last list; place: first of them */
     OBLAKOSH_LISTED_BEHIND = 21,      /* a listed cart has a higher-numbered one of its lane ahead; place: first such byte */
-    OBLAKOSH_LOCKED = 22,             /* plan is locked; place: 0 */
-    OBLAKOSH_RECORD = 23,             /* no run of this plan reaches the lent record; place: 0 */
+    OBLAKOSH_LOCKED = 22,             /* plan is locked, the lanes being left in order; place: 0 */
+    OBLAKOSH_RECORD = 23,             /* no run of this plan, in which the lanes are left in order, reaches the lent record; place: 0 */
     OBLAKOSH_NO_CART = 24,            /* cart number m or more; place: 0 */
     OBLAKOSH_CART_OUT = 25,           /* cart is already out; place: 0 */
-    OBLAKOSH_CART_HELD = 26,          /* cart is held; place: 0 */
+    OBLAKOSH_CART_HELD = 26,          /* cart is held, by carts ahead in the zone it wants or by the one in front on its lane; place: 0 */
     OBLAKOSH_NO_ZONE = 27,            /* zone number n or more, in the list operation; place: 0 */
     OBLAKOSH_ROOM = 28                /* lent room too short; place: 0 */
 };
@@ -125,7 +125,9 @@ oblakosh_plan_read oblakosh_read_plan(const uint8_t *sheet, size_t sheet_length,
 
 typedef struct {
     size_t length;                /* how many carts are in the ring; 0: no ring */
-    uint8_t cart[OBLAKOSH_CARTS]; /* begun at the lowest number; each waits for the next, the last for the first */
+    uint8_t cart[OBLAKOSH_CARTS]; /* begun at the lowest number; each waits for the next, the last for the first: on the lane
+                                     for the cart in front while that has not moved, else for the first of the zone's list
+                                     that has not left it */
     uint8_t zone[OBLAKOSH_CARTS]; /* the zone that each wants */
 } oblakosh_ring;
 
@@ -136,9 +138,10 @@ typedef struct {
     oblakosh_ring ring;           /* with 22 only */
 } oblakosh_judged;
 
-/* Whether the plan is accepted, and the entering times. Refuses with 1 to 22, where 22 comes with the ring, and with 28 if
-   fewer than OBLAKOSH_WORDS words are lent. If done, word 8 * cart + step holds the entering time, unused words of the
-   first 128 are 0, and words beyond are untouched. */
+/* Whether the plan is accepted, and the entering times, of which a cart's first is no earlier than that of the cart in front
+   on its lane. Refuses with 1 to 22, where 22 comes with the ring, and with 28 if fewer than OBLAKOSH_WORDS words are lent.
+   If done, word 8 * cart + step holds the entering time, unused words of the first 128 are 0, and words beyond are
+   untouched. */
 oblakosh_judged oblakosh_judge(const uint8_t *sheet, size_t sheet_length, const uint8_t *plan, size_t plan_length,
                                uint32_t *words, size_t words_length);
 
@@ -199,10 +202,12 @@ typedef struct {
     oblakosh_outcome outcome;
     uint8_t position;             /* the cart's new position */
     uint32_t made;                /* the new number of moves made */
-    uint32_t ahead;               /* with 26 only: how many carts ahead have not left the zone that the cart wants */
+    uint32_t ahead;               /* with 26 only: how many carts ahead have not left the zone that the cart wants, and one
+                                     more if it is to leave the lane and the cart in front has not */
 } oblakosh_asked;
 
-/* Whether the cart may make its next move now, and what the record would then hold. Refuses with 1 to 26. */
+/* Whether the cart may make its next move now, and what the record would then hold. Refuses with 1 to 26. A lane is left in
+   the order of its carts' numbers: a first move waits for that of the next lower-numbered cart of the lane. */
 oblakosh_asked oblakosh_ask(const uint8_t *sheet, size_t sheet_length, const uint8_t *plan, size_t plan_length,
                             oblakosh_record record, size_t cart);
 

@@ -12,7 +12,8 @@ struct Tables {
   const std::uint8_t* steps;
   const std::uint8_t* zone;
   const std::uint16_t* ahead;
-  const CartSet* same;
+  const Lanes* lanes;
+  const std::uint8_t* lane;
   const std::uint32_t* arrival;
   const std::uint16_t* passing;
   const std::uint16_t* travel;
@@ -21,7 +22,7 @@ struct Tables {
 };
 
 inline Tables tables_of(const Sheet& sheet, const Lanes& lanes, const std::uint16_t* ahead) {
-  return {sheet.steps, sheet.zone, ahead, lanes.same, sheet.arrival, sheet.passing, sheet.travel, sheet.follow, sheet.cross};
+  return {sheet.steps, sheet.zone, ahead, &lanes, sheet.lane, sheet.arrival, sheet.passing, sheet.travel, sheet.follow, sheet.cross};
 }
 
 // Where each cart stands, and for each zone the carts that have left it.
@@ -55,18 +56,30 @@ struct StepOrder {
   void entered(size_t x) { step[count++] = static_cast<std::uint8_t>(x); }
 };
 
-// Cart c at position p may enter zone z, with these carts ahead: it does, and moves on as far as it may. It is taken from the carts
-// inside when it is out; leave has at 16 * zone + cart when it left.
+// The carts that are neither out nor behind another on their lane, and those of them whose turn is still to come.
+struct Going {
+  CartSet all, turn;
+};
+
+// When the last cart passed each lane's stop line, and at 16 * zone + cart when it left.
+struct Past {
+  std::uint32_t line[16], leave[24 * 16];
+};
+
+// Cart c at position p may enter zone z, with these carts ahead: it does, and moves on as far as it may.
 template <class Order>
 [[gnu::always_inline]] inline void move_on(const Tables& t, size_t c, size_t p, size_t z, CartSet ahead, Standing& standing,
-                                           CartSet& inside, std::uint32_t* leave, std::uint32_t* __restrict enter, Order& order) {
-  const CartSet me = only(c), same = t.same[c];
+                                           Going& going, Past& past, std::uint32_t* __restrict enter, Order& order) {
+  const CartSet me = only(c), same = t.lanes->same[c];
   const size_t end = 8 * c + t.steps[c];
   size_t x = 8 * c + p, y;  // y is the zone that the cart is in
   std::uint32_t time;
   if (p == 0) {
-    time = clear_of_all(t, leave, z, ahead, same, t.arrival[c]);
-    enter[x] = time;
+    std::uint32_t& line = past.line[t.lane[c]];
+    time = clear_of_all(t, past.leave, z, ahead, same, std::max(t.arrival[c], line));
+    line = enter[x] = time;
+    going.all |= t.lanes->next[c];
+    going.turn |= t.lanes->next[c];
     order.entered(x);
     y = z;
     ++x;
@@ -77,8 +90,8 @@ template <class Order>
   for (;; ++x) {
     if (x == end) {
       standing.left[y] |= me;
-      leave[16 * y + c] = time + t.passing[x - 1];
-      inside ^= me;
+      past.leave[16 * y + c] = time + t.passing[x - 1];
+      going.all ^= me;
       ++x;
       break;
     }
@@ -86,42 +99,37 @@ template <class Order>
     ahead = t.ahead[x];
     if (ahead & ~standing.left[z]) break;
     const std::uint32_t travel = t.travel[x - 1];
-    time = clear_of_all(t, leave, z, ahead, same, time + t.passing[x - 1] + travel);
+    time = clear_of_all(t, past.leave, z, ahead, same, time + t.passing[x - 1] + travel);
     enter[x] = time;
     order.entered(x);
     standing.left[y] |= me;
-    leave[16 * y + c] = time - travel;
+    past.leave[16 * y + c] = time - travel;
     y = z;
   }
   standing.at[c] = static_cast<std::uint8_t>(x - 8 * c);
 }
 
-inline CartSet carts_of(const std::uint8_t* steps) {
-  CartSet carts = 0;
-  for (size_t c = 0; c < 16; ++c)
-    if (steps[c] != 0) carts |= only(c);
-  return carts;
-}
-
-// Every cart in turn moves on as far as it may, until all are out or none moves. Answers the carts that are stuck, and how all stand then.
+// Every cart in turn moves on as far as it may, until all are out or none moves; a lane's next cart gets its turn when the one in front
+// has passed the stop line. Answers the stuck carts that no lane holds, the lowest that is stuck among them, and how all stand then.
 template <class Order>
 inline CartSet settle(const Tables& t, std::uint32_t* __restrict enter, Order& order, Standing* stuck) {
   Standing standing = {};
-  std::uint32_t leave[24 * 16];
-  CartSet inside = carts_of(t.steps);
+  Past past;
+  std::memset(past.line, 0, sizeof past.line);
+  Going going{t.lanes->fronts, 0};
   bool moved;
   do {
     moved = false;
-    for (CartSet turn = inside; turn != 0; turn = rest(turn)) {
-      const size_t c = lowest(turn), p = standing.at[c], x = 8 * c + p, z = t.zone[x];
+    for (going.turn = going.all; going.turn != 0; going.turn = rest(going.turn)) {
+      const size_t c = lowest(going.turn), p = standing.at[c], x = 8 * c + p, z = t.zone[x];
       const CartSet ahead = t.ahead[x];
       if (ahead & ~standing.left[z]) continue;
       moved = true;
-      move_on(t, c, p, z, ahead, standing, inside, leave, enter, order);
+      move_on(t, c, p, z, ahead, standing, going, past, enter, order);
     }
-  } while (inside != 0 && moved);
-  if (inside != 0 && stuck != nullptr) *stuck = standing;
-  return inside;
+  } while (going.all != 0 && moved);
+  if (going.all != 0 && stuck != nullptr) *stuck = standing;
+  return going.all;
 }
 
 inline unsigned moves_of(const std::uint8_t* steps) {
@@ -152,10 +160,13 @@ struct Judged {
   Ring ring;
 };
 
-// Each stuck cart points to the first in the list of the zone it wants that has not left it; the ring begins at its lowest cart.
-inline void find_ring(const Sheet& sheet, const Orders& orders, CartSet stuck, const Standing& standing, Ring& ring) {
+// Each stuck cart points to the cart in front if both are on the lane, else to the first in the list of the zone it wants that has not
+// left it; the ring begins at its lowest cart.
+inline void find_ring(const Sheet& sheet, const Lanes& lanes, const Orders& orders, CartSet stuck, const Standing& standing, Ring& ring) {
   const auto wanted = [&](size_t c) { return sheet.zone[8 * c + standing.at[c]]; };
   const auto pointed = [&](size_t c) {
+    const CartSet lower = lanes.same[c] & (only(c) - 1);
+    if (lower != 0 && standing.at[c] == 0 && standing.at[highest(lower)] == 0) return highest(lower);
     const size_t z = wanted(c);
     const std::uint8_t* first = orders.list + 16 * z;
     while (standing.left[z] >> *first & 1) ++first;
@@ -186,7 +197,7 @@ inline Judged judge(Lent s, Lent p, std::uint32_t* words, size_t words_length) {
   const CartSet stuck = settle(tables_of(sheet, lanes, orders.ahead), enter, none, &standing);
   if (stuck != 0) {
     judged.outcome.number = 22;
-    find_ring(sheet, orders, stuck, standing, judged.ring);
+    find_ring(sheet, lanes, orders, stuck, standing, judged.ring);
     return judged;
   }
   if (words_length < 128) {

@@ -22,6 +22,7 @@ class Planner {
     find_visits(sheet_, visits_);
     find_lanes(sheet_, lanes_);
     if (rule == Rule::removal) {
+      find_behind_line();
       solve(0, sheet_.carts);
     } else {
       go_by_rank();
@@ -76,6 +77,15 @@ class Planner {
     }
   }
 
+  // Where the spare time of the step behind each first step at the stop line is kept, which is the lane's next cart's; none is at the end.
+  void find_behind_line() {
+    spare_[384] = UINT32_MAX;
+    for (unsigned r = 0; r < sheet_.carts; ++r) {
+      const CartSet next = lanes_.next[r];
+      behind_line_[r] = static_cast<std::uint16_t>(next == 0 ? 384 : 16 * sheet_.zone[8 * lowest(next)] + lowest(next));
+    }
+  }
+
   // "Both ranks below the group: as decided. Both in the group: undecided. Both above: absent. Otherwise lower rank first."
   // Same-lane pairs go by number, which is by rank. Answers how many pairs are undecided.
   unsigned arrange(unsigned low, unsigned high) {
@@ -123,6 +133,7 @@ class Planner {
       std::uint32_t spare = last ? finish_ - (enter_[x] + sheet_.passing[x]) : spare_[16 * sheet_.zone[x + 1] + c];
       const std::uint32_t* others = spare_ + 16 * z;
       for (CartSet behind = behind_[x]; behind != 0; behind = rest(behind)) spare = std::min(spare, others[lowest(behind)]);
+      if (x == 8 * c) spare = std::min(spare, spare_[behind_line_[c]]);
       spare_[16 * z + c] = spare;
       latest_[16 * z + c] = static_cast<std::int32_t>(enter_[x] + spare);
     }
@@ -198,8 +209,8 @@ class Planner {
   Visits visits_;
   Lanes lanes_;
   std::uint8_t cart_[16];
-  std::uint16_t ahead_[128], behind_[128], undecided_[128];
-  std::uint32_t enter_[128], spare_[384], finish_ = 0;
+  std::uint16_t ahead_[128], behind_[128], undecided_[128], behind_line_[16];
+  std::uint32_t enter_[128], spare_[385], finish_ = 0;
   std::int32_t latest_[384];
   std::uint8_t order_[128];
   size_t entered_ = 0;

@@ -11,8 +11,10 @@ using std::size_t;
 using CartSet = std::uint32_t;  // bit d for cart d
 
 inline size_t lowest(CartSet set) { return static_cast<size_t>(__builtin_ctzll(set)); }
+inline size_t highest(CartSet set) { return 31 - static_cast<size_t>(__builtin_clz(set)); }
 inline size_t count(CartSet set) { return static_cast<size_t>(__builtin_popcount(set)); }
 inline CartSet rest(CartSet set) { return set & (set - 1); }
+inline CartSet first(CartSet set) { return set & -set; }
 inline CartSet only(size_t cart) { return CartSet{1} << cart; }
 
 // Bytes that the caller lends.
@@ -38,9 +40,9 @@ struct Orders {
   std::uint16_t ahead[128];
 };
 
-// For each cart the carts of its lane.
+// For each cart the carts of its lane and the lane's next cart, if there is one; and the first carts of the lanes.
 struct Lanes {
-  CartSet same[16];
+  CartSet same[16], next[16], fronts;
 };
 
 // A number of document 01's table and its place.
@@ -176,9 +178,14 @@ inline Outcome read_sheet(Lent s, Sheet& sheet) {
 }
 
 inline void find_lanes(const Sheet& sheet, Lanes& lanes) {
-  CartSet on[16] = {};
-  for (unsigned c = 0; c < sheet.carts; ++c) on[sheet.lane[c]] |= only(c);
+  CartSet on[16] = {}, behind = 0;
+  for (unsigned c = sheet.carts; c-- != 0;) {
+    CartSet& lane = on[sheet.lane[c]];
+    behind |= lanes.next[c] = first(lane);
+    lane |= only(c);
+  }
   for (unsigned c = 0; c < sheet.carts; ++c) lanes.same[c] = on[sheet.lane[c]];
+  lanes.fronts = (only(sheet.carts) - 1) & ~behind;
 }
 
 // Which step of a cart is in a zone: its place 8 * cart + step, at 16 * zone + cart; who visits each zone, and how many they are.

@@ -311,6 +311,32 @@ inline Sheet random_sheet_for_planners(Random& random) {
     return sheet;
 }
 
+// Sheets for the stop line of #102: few lanes, lane 0 among them, three on a lane, and short routes over zones that the
+// lane's carts mostly do not share.
+inline Sheet random_sheet_for_line(Random& random) {
+    Sheet sheet;
+    const uint32_t n = random.between(2, 5);
+    const uint32_t m = random.between(2, 5);
+    const uint32_t lanes = random.between(1, 3);
+    const uint32_t time_kind = random.one_in(2) ? 1 : 2;
+    for (uint32_t z = 0; z < n; z++) sheet.zones.push_back(Zone{random_time(random, time_kind), random_time(random, time_kind)});
+    for (uint32_t c = 0; c < m; c++) {
+        Cart cart;
+        cart.lane = random.below(lanes) * 7;
+        cart.arrival = random_arrival(random, random.one_in(2) ? 0 : 2);
+        std::vector<uint32_t> zones;
+        for (uint32_t z = 0; z < n; z++) zones.push_back(z);
+        random.shuffle(zones);
+        const uint32_t steps = random.between(1, std::min(n, 2u));
+        for (uint32_t s = 0; s < steps; s++) {
+            cart.steps.push_back(Step{zones[s], random_time(random, time_kind), s + 1 == steps ? 0 : random_time(random, time_kind)});
+        }
+        sheet.carts.push_back(cart);
+    }
+    sort_arrivals(sheet);
+    return sheet;
+}
+
 // The longest sheet: 16 carts, 8 steps each, 24 zones, all values at their limit.
 inline Sheet longest_sheet() {
     Sheet sheet;
@@ -705,8 +731,9 @@ inline Record record_of(const Positions& positions) {
     return record;
 }
 
-// A record reached by permitted moves taken at random (also under a locked plan).
-inline Record record_by_random_run(Random& random, const Sheet& sheet, const Lists& lists) {
+// A record reached by permitted moves taken at random (also under a locked plan); without the stop line it may be one that
+// only the base reaches.
+inline Record record_by_random_run(Random& random, const Sheet& sheet, const Lists& lists, bool stop_line = true) {
     const Orders orders = independent::orders_of_lists(lists);
     const uint32_t m = static_cast<uint32_t>(sheet.carts.size());
     Positions positions(m, 0);
@@ -716,7 +743,7 @@ inline Record record_by_random_run(Random& random, const Sheet& sheet, const Lis
     for (uint32_t made = 0; made < wanted; made++) {
         std::vector<uint32_t> permitted;
         for (uint32_t c = 0; c < m; c++) {
-            if (independent::is_permitted(sheet, orders, positions, c)) permitted.push_back(c);
+            if (independent::is_permitted(sheet, orders, positions, c, stop_line)) permitted.push_back(c);
         }
         if (permitted.empty()) break;
         positions[permitted[random.below(static_cast<uint32_t>(permitted.size()))]]++;
@@ -1068,8 +1095,40 @@ inline Case planners_case(Random& random) {
     return c;
 }
 
+// Whether the stop line alone locks this plan.
+inline bool line_locks(const Sheet& sheet, const Lists& lists) {
+    const Orders orders = independent::orders_of_lists(lists);
+    const size_t moves = independent::count_moves(sheet);
+    return independent::order_of_moves(sheet, orders, false).size() == moves && independent::order_of_moves(sheet, orders).size() < moves;
+}
+
+// A sheet for the stop line, often with a plan that the line alone locks; every cart is asked for at the start, and in
+// records that only the base reaches.
+inline Case line_case(Random& random) {
+    Case c;
+    c.kind = "sheet for the stop line,";
+    const Sheet sheet = random_sheet_for_line(random);
+    c.sheet = sheet_to_bytes(sheet);
+    c.plan = random_plan(random, sheet, c.sheet, c.kind);
+    for (uint32_t tried = random.one_in(2) ? 20 : 0; tried > 0; tried--) {
+        const Lists lists = shuffled_lists(random, sheet);
+        if (!line_locks(sheet, lists)) continue;
+        c.plan = plan_to_bytes(lists);
+        break;
+    }
+    add_other_inputs(random, c);
+    for (uint32_t cart = 0; cart < sheet.carts.size(); cart++) c.move_requests.push_back(MoveRequest{Record(), cart});
+    const independent::PlanAnswer plan = independent::read_plan(c.sheet, c.plan);
+    for (int i = 0; plan.number == 0 && i < 3; i++) {
+        const Record record = record_by_random_run(random, sheet, plan.lists, false);
+        c.move_requests.push_back(MoveRequest{record, random.below(static_cast<uint32_t>(sheet.carts.size()))});
+    }
+    return c;
+}
+
 inline Case random_small_case(Random& random) {
     if (random.one_in(20)) return planners_case(random);
+    if (random.one_in(12)) return line_case(random);
     if (random.one_in(25)) return case_with_rings(random, random.between(1, 3), 3);
     if (random.one_in(1000)) return very_long_case(random);
     switch (random.below(4)) {
@@ -1141,6 +1200,104 @@ inline std::vector<PlannersSituation> situations_of(const Sheet& sheet, const in
     if (equal) found.push_back(arrivals_equal);
     if (one) found.push_back(one_lane);
     if (sheet.carts.empty()) found.push_back(no_carts);
+    return found;
+}
+
+// What the stop line of #102 has to be tried on; a run that never saw one of these has failed.
+enum LineSituation {
+    locked_by_line, ring_over_lane, second_asked_first, third_asked_second, lane_and_list_hold, only_base_reaches, line_decides_time,
+    lane_0_absent_judged, lane_0_absent_planned, three_on_lane_judged, three_on_lane_planned, line_situations
+};
+constexpr const char* line_situation_names[line_situations] = {
+    "locked by the line alone", "a ring over a lane", "second of a lane asked first, no zone in common, one ahead",
+    "third of a lane asked, the first gone, the second not", "held by lane and list", "record that only the base reaches",
+    "the line alone decides a time", "lane 0 with absent carts, judged", "lane 0 with absent carts, planned",
+    "three on a lane, judged", "three on a lane, planned"};
+
+inline bool lane_0_with_absent_carts(const Sheet& sheet) {
+    for (const Cart& cart : sheet.carts) {
+        if (cart.lane == 0 && sheet.carts.size() < 16) return true;
+    }
+    return false;
+}
+
+inline bool three_on_a_lane(const Sheet& sheet) {
+    uint32_t carts[16] = {};
+    for (const Cart& cart : sheet.carts) {
+        if (++carts[cart.lane] == 3) return true;
+    }
+    return false;
+}
+
+// Whether some first entering time is later than arrival and the carts ahead in the zone ask for.
+inline bool line_decides(const Sheet& sheet, const Lists& lists, const std::vector<uint32_t>& words) {
+    for (uint32_t c = 0; c < sheet.carts.size(); c++) {
+        uint32_t without = sheet.carts[c].arrival;
+        const uint32_t zone = sheet.carts[c].steps[0].zone;
+        for (uint32_t ahead : lists[zone]) {
+            if (ahead == c) break;
+            const std::vector<Step>& route = sheet.carts[ahead].steps;
+            const size_t at = static_cast<size_t>(independent::step_in_route(sheet.carts[ahead], zone));
+            const uint32_t leave = at + 1 == route.size() ? words[8 * ahead + at] + route[at].passing
+                                                          : words[8 * ahead + at + 1] - route[at].travel;
+            without = std::max(without, leave + static_cast<uint32_t>(independent::gap_between(sheet, zone, ahead, c)));
+        }
+        if (words[8 * c] > without) return true;
+    }
+    return false;
+}
+
+// The situations of a planned sheet.
+inline std::vector<LineSituation> line_situations_planned(const Sheet& sheet) {
+    std::vector<LineSituation> found;
+    if (lane_0_with_absent_carts(sheet)) found.push_back(lane_0_absent_planned);
+    if (three_on_a_lane(sheet)) found.push_back(three_on_lane_planned);
+    return found;
+}
+
+// The situations of a readable plan that was judged with room for its times.
+inline std::vector<LineSituation> line_situations_judged(const Sheet& sheet, const Lists& lists, const independent::JudgeAnswer& answer) {
+    std::vector<LineSituation> found;
+    if (answer.number == 22) {
+        if (line_locks(sheet, lists)) found.push_back(locked_by_line);
+        for (size_t i = 0; i < answer.ring.size(); i++) {
+            const independent::RingCart& here = answer.ring[i];
+            const uint32_t next = answer.ring[(i + 1) % answer.ring.size()].cart;
+            bool in_list = false;
+            for (uint32_t listed : lists[here.zone]) in_list = in_list || listed == next;
+            if (!in_list) {                                            // so it is the lane that it waits for
+                found.push_back(ring_over_lane);
+                break;
+            }
+        }
+    } else if (line_decides(sheet, lists, answer.words)) {
+        found.push_back(line_decides_time);
+    }
+    if (lane_0_with_absent_carts(sheet)) found.push_back(lane_0_absent_judged);
+    if (three_on_a_lane(sheet)) found.push_back(three_on_lane_judged);
+    return found;
+}
+
+// The situations of a request under an accepted plan.
+inline std::vector<LineSituation> line_situations_moved(const Sheet& sheet, const Lists& lists, const MoveRequest& request,
+                                                        const independent::MoveAnswer& answer) {
+    std::vector<LineSituation> found;
+    Positions positions;
+    for (uint32_t c = 0; c < sheet.carts.size(); c++) positions.push_back(request.record.positions[c]);
+    if (answer.number == 26) {
+        const uint32_t cart = static_cast<uint32_t>(request.cart);
+        if (!independent::is_held_by_lane(sheet, positions, cart)) return found;
+        const uint32_t front = static_cast<uint32_t>(independent::cart_in_front(sheet, cart));
+        const int before = independent::cart_in_front(sheet, front);
+        if (answer.ahead == 1 && !share_a_zone(sheet.carts[front], sheet.carts[cart])) found.push_back(second_asked_first);
+        if (before >= 0 && positions[static_cast<size_t>(before)] > 0) found.push_back(third_asked_second);
+        if (answer.ahead >= 2) found.push_back(lane_and_list_hold);
+    }
+    if (answer.number == 23) {
+        Record counted = record_of(positions);
+        const bool told = counted.positions == request.record.positions && counted.made == request.record.made;
+        if (told && independent::run_reaches(sheet, independent::orders_of_lists(lists), positions, false)) found.push_back(only_base_reaches);
+    }
     return found;
 }
 

@@ -424,6 +424,7 @@ int main() {
     print_kinds(seen);
     print_numbers(seen);
     print_situations("sheets planned three ways", cases::planners_situation_names, seen.tally.planners, cases::planners_situations);
+    print_situations("the stop line", cases::line_situation_names, seen.tally.line, cases::line_situations);
     if (seen.readable[small] < 200000) fail("fewer than 200,000 small crossings with a readable plan");
     if (seen.tiny_sheets != 17677 || seen.cases[tiny] != 667768) fail("not every tiny crossing");
     if (seen.sheet_refused[damaged_sheets] < 100000) fail("fewer than 100,000 damaged sheets");

@@ -1,7 +1,7 @@
-// Every operation of document 01 and of document 02's #101 on any bytes, written from them alone and plain on purpose.
+// Every operation of document 01 with document 02's #101 and #102 on any bytes, written from them alone and plain on purpose.
 //
 // Lines in quotation marks are sentences of document 01, unless they are marked "001", which is the
-// paper it refers to (Lin and others 2019). The double checks (search over all runs, times two ways,
+// paper it refers to (Lin and others 2019), or #101 or #102, which are document 02's. The double checks (search over all runs, times two ways,
 // resource conflict graph) are inside the operations; one that fails throws DoubleCheckFailed.
 
 #ifndef INDEPENDENT_HPP
@@ -101,6 +101,23 @@ inline uint32_t count_visitors(const Sheet& sheet, uint32_t zone) {
         if (step_in_route(cart, zone) >= 0) visitors++;
     }
     return visitors;
+}
+
+// "On one lane, a lower cart number is in front." #102: "the next lower-numbered cart of its lane";
+// -1 if the cart is its lane's first.
+inline int cart_in_front(const Sheet& sheet, uint32_t cart) {
+    for (int other = static_cast<int>(cart) - 1; other >= 0; other--) {
+        if (sheet.carts[static_cast<size_t>(other)].lane == sheet.carts[cart].lane) return other;
+    }
+    return -1;
+}
+
+// #102: "the lane's next cart"; -1 if the cart is its lane's last. Absent carts are on no lane.
+inline int cart_next_on_lane(const Sheet& sheet, uint32_t cart) {
+    for (uint32_t other = cart + 1; other < sheet.carts.size(); other++) {
+        if (sheet.carts[other].lane == sheet.carts[cart].lane) return static_cast<int>(other);
+    }
+    return -1;
 }
 
 // ---------------------------------------------------------------------------------------------
@@ -474,7 +491,8 @@ inline uint32_t count_moves(const Sheet& sheet) {
 // "the moves, each after its own cart's earlier move and after the leavings it waits for".
 // Takes again and again a move that has nothing left to come after. All moves are taken exactly
 // when there is no cycle; the answer is the moves taken, in an order that respects the graph.
-inline std::vector<Move> order_of_moves(const Sheet& sheet, const Orders& orders) {
+// Without the stop line these are document 01's moves before #102, asked for in comparisons only.
+inline std::vector<Move> order_of_moves(const Sheet& sheet, const Orders& orders, bool stop_line = true) {
     std::vector<Move> moves;
     std::vector<size_t> first_move_of;
     for (uint32_t c = 0; c < sheet.carts.size(); c++) {
@@ -512,6 +530,15 @@ inline std::vector<Move> order_of_moves(const Sheet& sheet, const Orders& orders
                 waits_for[entering]++;
             }
         }
+    }
+
+    // #102: "A cart's first move now also waits until the next lower-numbered cart of its lane has
+    // made its first move"
+    for (uint32_t c = 0; c < sheet.carts.size(); c++) {
+        const int front = cart_in_front(sheet, c);
+        if (!stop_line || front < 0) continue;
+        later[first_move_of[static_cast<size_t>(front)]].push_back(first_move_of[c]);
+        waits_for[first_move_of[c]]++;
     }
 
     std::vector<size_t> taken;
@@ -557,13 +584,21 @@ inline int wanted_zone(const Sheet& sheet, const Positions& positions, uint32_t 
     return static_cast<int>(sheet.carts[cart].steps[position].zone);
 }
 
+// #102: "held by the lane": both the cart and the one in front of it are still on the lane.
+inline bool is_held_by_lane(const Sheet& sheet, const Positions& positions, uint32_t cart) {
+    const int front = cart_in_front(sheet, cart);
+    return front >= 0 && positions[cart] == 0 && positions[static_cast<size_t>(front)] == 0;
+}
+
 // "A move into a zone is permitted when every cart ahead in that zone's list has left it. The move
-// out is always permitted." Here by the present orders, which for a plan are its lists.
+// out is always permitted." Here by the present orders, which for a plan are its lists. #102 adds
+// the lane; without it these are the moves before #102, asked for in comparisons only.
 inline bool is_permitted(const Sheet& sheet, const Orders& orders, const Positions& positions,
-                         uint32_t cart) {
+                         uint32_t cart, bool stop_line = true) {
     if (is_out(sheet, positions, cart)) return false;
     const int zone = wanted_zone(sheet, positions, cart);
     if (zone < 0) return true;
+    if (stop_line && is_held_by_lane(sheet, positions, cart)) return false;
     for (uint32_t other = 0; other < sheet.carts.size(); other++) {
         if (!orders.before[zone][other][cart]) continue;
         if (!has_left(sheet, positions, other, static_cast<uint32_t>(zone))) return false;
@@ -664,6 +699,13 @@ inline AllRuns search_all_runs(const Sheet& sheet, const Orders& orders) {
                 }
             }
 
+            // #102: no cart is off its lane before the one in front
+            for (uint32_t cart = 0; cart < m; cart++) {
+                const int front = cart_in_front(sheet, cart);
+                must(front < 0 || positions[cart] == 0 || positions[static_cast<size_t>(front)] > 0,
+                     "a lane's carts leave it in the order of their numbers");
+            }
+
             if (all_are_out(sheet, positions)) {
                 runs.all_out_reached = true;
                 // Document 00: "All are out after exactly as many moves as there are route steps
@@ -704,6 +746,30 @@ inline bool depth_first_finds_cycle(const std::vector<std::vector<size_t>>& edge
     }
     state[vertex] = 2;                                       // ended
     return false;
+}
+
+struct Crossing {
+    Sheet sheet;
+    Lists lists;
+};
+
+// #102: "the published graph with the stop line set as a zone ahead of the first; its room is free
+// as soon as a cart enters its first real zone". A zone more for each lane: the routes of the lane's
+// carts begin with it, and its list has them by number. A cart leaves it by entering its first zone.
+inline Crossing with_stop_lines(const Sheet& sheet, const Lists& lists) {
+    Crossing crossing{sheet, lists};
+    for (uint32_t lane = 0; lane < 16; lane++) {
+        const uint32_t line = static_cast<uint32_t>(crossing.sheet.zones.size());
+        crossing.sheet.zones.push_back(Zone());
+        crossing.lists.push_back({});
+        for (uint32_t c = 0; c < sheet.carts.size(); c++) {
+            if (sheet.carts[c].lane != lane) continue;
+            std::vector<Step>& route = crossing.sheet.carts[c].steps;
+            route.insert(route.begin(), Step{line, 0, 0});
+            crossing.lists[line].push_back(c);
+        }
+    }
+    return crossing;
 }
 
 // "the resource conflict graph of section 3.1, with all six listed rules and an edge for every
@@ -810,7 +876,8 @@ inline Times times_all_zero(const Sheet& sheet) {
 
 // "Entering time is the largest of: its arrival, on the first step; previous entering plus passing
 // plus travel, on others; and for each cart ahead, that cart's leaving time plus the zone's gap"
-// "Ahead" is by the present orders.
+// "Ahead" is by the present orders. #102: "its first entering time is no earlier than that cart's",
+// the one's in front.
 inline int64_t entering_time(const Sheet& sheet, const Orders& orders, const Times& times,
                              uint32_t cart, uint32_t step) {
     const Cart& c = sheet.carts[cart];
@@ -818,6 +885,10 @@ inline int64_t entering_time(const Sheet& sheet, const Orders& orders, const Tim
     int64_t largest;
     if (step == 0) {
         largest = c.arrival;
+        const int front = cart_in_front(sheet, cart);
+        if (front >= 0 && times.enter[static_cast<size_t>(front)][0] > largest) {
+            largest = times.enter[static_cast<size_t>(front)][0];
+        }
     } else {
         largest = times.enter[cart][step - 1] + c.steps[step - 1].passing + c.steps[step - 1].travel;
     }
@@ -876,6 +947,12 @@ inline Times times_by_relaxation(const Sheet& sheet, const Orders& orders) {
                 if (step == 0) {
                     // 001: "a_i", on the first conflict zone
                     value = sheet.carts[i].arrival;
+                    // 001: "s_{i',j''} - w_{k'} + w_k" with the stop line as the zone left and all
+                    // its times 0: every cart in front on the lane has entered its first zone
+                    for (uint32_t other = 0; other < i; other++) {
+                        if (sheet.carts[other].lane != sheet.carts[i].lane) continue;
+                        if (s[other][0] > value) value = s[other][0];
+                    }
                 } else {
                     // 001: "s_{i',j'} + p_{i',j'} + w_k" for the Type-1 edge, w_k the travel time
                     value = s[i][step - 1] + route[step - 1].passing + route[step - 1].travel;
@@ -932,11 +1009,13 @@ inline void times_must_agree(const Times& a, const Times& b) {
 // The ring
 // ---------------------------------------------------------------------------------------------
 
-// "points to the first cart in that zone's list which hasn't left it"
+// "points to the first cart in that zone's list which hasn't left it"; #102: "a cart held by the
+// lane points to that front cart before any cart in the zone list"
 inline uint32_t cart_pointed_to(const Sheet& sheet, const Lists& lists, const Positions& positions,
                                 uint32_t cart) {
     const int zone = wanted_zone(sheet, positions, cart);
     must(zone >= 0, "a stuck cart waits for a zone");
+    if (is_held_by_lane(sheet, positions, cart)) return static_cast<uint32_t>(cart_in_front(sheet, cart));
     for (uint32_t listed : lists[static_cast<size_t>(zone)]) {
         if (!has_left(sheet, positions, listed, static_cast<uint32_t>(zone))) return listed;
     }
@@ -999,6 +1078,7 @@ inline void check_ring(const Sheet& sheet, const Lists& lists, const Positions& 
 
 struct Verdict {
     bool locked = false;
+    bool locked_by_line = false;         // and accepted without the stop line
     std::vector<RingCart> ring;
     std::vector<Move> order;             // of the moves
     AllRuns runs;                        // searched only for small crossings
@@ -1018,9 +1098,17 @@ inline Verdict work_out_verdict(const Sheet& sheet, const Lists& lists) {
     must(end == run_to_the_end(sheet, orders, true), "the end does not depend on the order");
     must(all_are_out(sheet, end) == !verdict.locked, "all out at the end exactly if not locked");
 
-    // "For complete plans it is the same verdict as the resource conflict graph of section 3.1"
-    must(resource_conflict_graph_has_cycle(sheet, lists) == verdict.locked,
+    // "For complete plans it is the same verdict as the resource conflict graph of section 3.1",
+    // since #102 with the stop lines
+    const Crossing crossing = with_stop_lines(sheet, lists);
+    must(resource_conflict_graph_has_cycle(crossing.sheet, crossing.lists) == verdict.locked,
          "resource conflict graph has a cycle exactly if locked");
+    // a plan that was locked before #102 stays so
+    const bool locked_before = order_of_moves(sheet, orders, false).size() != count_moves(sheet);
+    must(verdict.locked || !locked_before, "the stop line unlocks no plan");
+    must(resource_conflict_graph_has_cycle(sheet, lists) == locked_before,
+         "without the stop lines, resource conflict graph has a cycle exactly if locked");
+    verdict.locked_by_line = verdict.locked && !locked_before;
 
     if (verdict.locked) {
         verdict.ring = find_ring(sheet, lists, end);
@@ -1203,7 +1291,8 @@ using Spare = std::vector<std::vector<int64_t>>;           // spare[cart][step]
 
 // "Spare time of a last step is finish less its leaving time, or the least spare time among steps
 // behind it in that zone's present orders, if less. That of another step is the least among its
-// next step and the steps behind it."
+// next step and the steps behind it." #102: "a cart's first step has the first step of the lane's
+// next cart behind it too"
 inline int64_t spare_time(const Sheet& sheet, const Orders& orders, const Times& times,
                           const Spare& spare, uint32_t cart, uint32_t step) {
     const Cart& c = sheet.carts[cart];
@@ -1219,6 +1308,10 @@ inline int64_t spare_time(const Sheet& sheet, const Orders& orders, const Times&
         const int step_behind = step_in_route(sheet.carts[behind], zone);
         const int64_t theirs = spare[behind][static_cast<size_t>(step_behind)];
         if (theirs < least) least = theirs;
+    }
+    const int next = cart_next_on_lane(sheet, cart);
+    if (step == 0 && next >= 0 && spare[static_cast<size_t>(next)][0] < least) {
+        least = spare[static_cast<size_t>(next)][0];
     }
     return least;
 }
@@ -1266,6 +1359,12 @@ inline Spare spare_by_following(const Sheet& sheet, const Orders& orders, const 
                     if (met[behind][at]) continue;
                     met[behind][at] = true;
                     follow.push_back({behind, at});
+                }
+                // from a first step to the first steps of all carts behind on the lane
+                for (uint32_t behind = cart + 1; step == 0 && behind < sheet.carts.size(); behind++) {
+                    if (sheet.carts[behind].lane != sheet.carts[cart].lane || met[behind][0]) continue;
+                    met[behind][0] = true;
+                    follow.push_back({behind, 0});
                 }
             }
             spare[c].push_back(least);
@@ -1391,7 +1490,7 @@ inline void solve_group(Removal& removal, uint32_t first, uint32_t size) {
 }
 
 // ---------------------------------------------------------------------------------------------
-// Planning. Lines in quotation marks that are marked #101 are document 02's.
+// Planning
 // ---------------------------------------------------------------------------------------------
 
 enum class Planner { removal, first_come, better };
@@ -1538,6 +1637,23 @@ inline PlanningAnswer make_plan(const Bytes& sheet_bytes, const Bytes& room, Pla
 // The crossing record and moving
 // ---------------------------------------------------------------------------------------------
 
+// A run that makes only moves that the wanted positions have made. A permitted move stays permitted
+// when others move, so such a run is never spoiled by its own order.
+inline bool run_reaches(const Sheet& sheet, const Orders& orders, const Positions& wanted, bool stop_line = true) {
+    Positions positions(wanted.size(), 0);
+    bool moved = true;
+    while (moved) {
+        moved = false;
+        for (uint32_t c = 0; c < wanted.size(); c++) {
+            if (positions[c] == wanted[c]) continue;
+            if (!is_permitted(sheet, orders, positions, c, stop_line)) continue;
+            positions[c]++;
+            moved = true;
+        }
+    }
+    return positions == wanted;
+}
+
 // "no run of this plan reaches the lent record". Only for an accepted plan.
 inline bool record_is_reached(const Sheet& sheet, const Lists& lists, const Verdict& verdict,
                               const Record& record) {
@@ -1558,24 +1674,16 @@ inline bool record_is_reached(const Sheet& sheet, const Lists& lists, const Verd
     Positions wanted;
     for (uint32_t c = 0; c < m; c++) wanted.push_back(record.positions[c]);
 
-    // First way: a run that makes only moves the record has made. A permitted move stays permitted
-    // when others move, so such a run is never spoiled by its own order.
-    Positions positions(m, 0);
-    bool moved = true;
-    while (moved) {
-        moved = false;
-        for (uint32_t c = 0; c < m; c++) {
-            if (positions[c] == wanted[c]) continue;
-            if (!is_permitted(sheet, orders, positions, c)) continue;
-            positions[c]++;
-            moved = true;
-        }
-    }
-    const bool reached = positions == wanted;
+    // First way: a run.
+    const bool reached = run_reaches(sheet, orders, wanted);
 
-    // Second way: each cart's made moves into a zone have the leavings they wait for made too.
+    // Second way: each cart's made moves into a zone have the leavings they wait for made too, and
+    // its first move the first moves of the carts in front.
     bool closed = true;
     for (uint32_t c = 0; c < m; c++) {
+        for (uint32_t front = 0; front < c; front++) {
+            if (sheet.carts[front].lane == sheet.carts[c].lane && wanted[c] > 0 && wanted[front] == 0) closed = false;
+        }
         for (uint32_t s = 0; s < sheet.carts[c].steps.size() && s < wanted[c]; s++) {
             const uint32_t zone = sheet.carts[c].steps[s].zone;
             for (uint32_t ahead : lists[zone]) {
@@ -1629,7 +1737,8 @@ inline MoveAnswer move_cart(const Bytes& sheet_bytes, const Bytes& plan_bytes, c
         answer.number = 25;
         return answer;
     }
-    // "cart is held"; "26 also tells how many carts ahead have not left the wanted zone"
+    // "cart is held"; "26 also tells how many carts ahead have not left the wanted zone"; #102: "26
+    // reports the carts ahead in the zone list and adds one if the lane holds the cart"
     const int zone = wanted_zone(plan.sheet, positions, cart);
     uint32_t ahead_and_not_left = 0;
     if (zone >= 0) {
@@ -1638,12 +1747,13 @@ inline MoveAnswer move_cart(const Bytes& sheet_bytes, const Bytes& plan_bytes, c
             if (!has_left(plan.sheet, positions, listed, static_cast<uint32_t>(zone))) ahead_and_not_left++;
         }
     }
+    const uint32_t lane = is_held_by_lane(plan.sheet, positions, cart) ? 1 : 0;
     const Orders orders = orders_of_lists(plan.lists);
-    must((ahead_and_not_left == 0) == is_permitted(plan.sheet, orders, positions, cart),
-         "held exactly if some cart ahead has not left");
-    if (ahead_and_not_left > 0) {
+    must((ahead_and_not_left + lane == 0) == is_permitted(plan.sheet, orders, positions, cart),
+         "held exactly if some cart ahead has not left or the lane holds the cart");
+    if (ahead_and_not_left + lane > 0) {
         answer.number = 26;
-        answer.ahead = ahead_and_not_left;
+        answer.ahead = ahead_and_not_left + lane;
         return answer;
     }
     answer.record.positions[cart] = static_cast<uint8_t>(record.positions[cart] + 1);

@@ -49,6 +49,7 @@ struct Tally {
     uint64_t rings[17] = {};             // by the number of their carts
     uint64_t cut_sheets = 0;             // planned with a group cut
     uint64_t planners[cases::planners_situations] = {};
+    uint64_t line[cases::line_situations] = {};
 
     void count(Operation operation, uint32_t number) {
         if (number > 28) throw Difference("document 01 has no such number");
@@ -61,6 +62,7 @@ struct Tally {
         for (int length = 0; length <= 16; length++) rings[length] += other.rings[length];
         cut_sheets += other.cut_sheets;
         for (int s = 0; s < cases::planners_situations; s++) planners[s] += other.planners[s];
+        for (int s = 0; s < cases::line_situations; s++) line[s] += other.line[s];
     }
 };
 
@@ -379,6 +381,7 @@ private:
     Tally& tally;
     Lent<uint8_t> sheet;
     Lent<uint8_t> plan;
+    independent::PlanAnswer readable;    // the plan's lists, once it is read
 
     void inputs_must_be_unchanged(const char* function) const {
         sheet.must_hold(c.sheet, function);
@@ -406,6 +409,7 @@ private:
         if (better.finish != std::min(removal.finish, first_come.finish)) throw Difference("the better plan finishes with the earlier one");
         const Sheet read = independent::read_sheet(c.sheet).sheet;
         for (cases::PlannersSituation found : cases::situations_of(read, removal, first_come)) tally.planners[found]++;
+        for (cases::LineSituation found : cases::line_situations_planned(read)) tally.line[found]++;
     }
 
     PlanningAnswer make_plan(Planner planner, Operation operation, const char* name,
@@ -436,6 +440,7 @@ private:
                      simulator_read_plan(sheet.first(), sheet.size(), plan.first(), plan.size()));
         inputs_must_be_unchanged("oblakosh_read_plan");
         tally.count(reading_plan, answer.number);
+        readable = answer;
         return answer.number;
     }
 
@@ -471,6 +476,8 @@ private:
         inputs_must_be_unchanged("oblakosh_judge");
         tally.count(judging, answer.number);
         tally.rings[answer.ring.size()]++;
+        if (answer.number != 0 && answer.number != 22) return;
+        for (cases::LineSituation found : cases::line_situations_judged(readable.sheet, readable.lists, answer)) tally.line[found]++;
     }
 
     // Asking stores nothing; moving stores what the independent program's record has.
@@ -486,6 +493,8 @@ private:
         record.must_hold({as_declared(answer.record)}, "oblakosh_move_cart");
         inputs_must_be_unchanged("oblakosh_move_cart");
         tally.count(moving, answer.number);
+        if (answer.number != 23 && answer.number != 26) return;
+        for (cases::LineSituation found : cases::line_situations_moved(readable.sheet, readable.lists, request, answer)) tally.line[found]++;
     }
 };
 

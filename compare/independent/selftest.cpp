@@ -1,5 +1,6 @@
-// Holds the independent program to document 01's examples 1 to 15, to the sheets of cut-groups.txt and first-come.txt, and to what documents 01
-// and 02 say of every answer. Run from the repository's folder, by compare/independent/run. With the word first-come it writes that file's lines.
+// Holds the independent program to document 01's examples 1 to 15, to the sheets of cut-groups.txt, first-come.txt and planned.txt, and to what
+// documents 01 and 02 say of every answer. Run from the repository's folder, by compare/independent/run. With the word first-come it writes that
+// file's lines, with the word planned those of compare/planned.txt for the sheets there.
 
 #include <cstdio>
 #include <cstdlib>
@@ -338,46 +339,385 @@ static void run_case(Random& random, const Case& c, bool whole_run) {
 }
 
 // ---------------------------------------------------------------------------------------------
+// Search over the moves of document 01 and #102, not by way of independent.hpp's orders
+// ---------------------------------------------------------------------------------------------
+
+static uint32_t step_at(const Sheet& sheet, uint32_t cart, uint32_t zone) {
+    uint32_t step = 0;
+    while (sheet.carts[cart].steps[step].zone != zone) step++;
+    return step;
+}
+
+// The carts that this one waits for: on the lane the one in front, if that is on it too, then those ahead in the zone's list.
+static std::vector<uint32_t> waits_for(const Sheet& sheet, const Lists& lists, const Positions& positions, uint32_t cart) {
+    std::vector<uint32_t> carts;
+    const std::vector<Step>& route = sheet.carts[cart].steps;
+    if (positions[cart] >= route.size()) return carts;
+    if (positions[cart] == 0) {
+        int front = -1;
+        for (uint32_t other = 0; other < cart; other++) {
+            if (sheet.carts[other].lane == sheet.carts[cart].lane) front = static_cast<int>(other);
+        }
+        if (front >= 0 && positions[static_cast<size_t>(front)] == 0) carts.push_back(static_cast<uint32_t>(front));
+    }
+    const uint32_t zone = route[positions[cart]].zone;
+    for (uint32_t ahead : lists[zone]) {
+        if (ahead == cart) break;
+        if (positions[ahead] < step_at(sheet, ahead, zone) + 2) carts.push_back(ahead);
+    }
+    return carts;
+}
+
+static bool may_move(const Sheet& sheet, const Lists& lists, const Positions& positions, uint32_t cart) {
+    return positions[cart] <= sheet.carts[cart].steps.size() && waits_for(sheet, lists, positions, cart).empty();
+}
+
+// Every state that permitted moves reach, and the one in which none is left.
+struct Searched {
+    std::set<Positions> reached;
+    Positions end;
+    bool all_out = true;
+};
+
+static Searched search(const Sheet& sheet, const Lists& lists) {
+    Searched searched;
+    std::vector<Positions> open = {Positions(sheet.carts.size(), 0)};
+    searched.reached.insert(open[0]);
+    uint32_t ends = 0;
+    while (!open.empty()) {
+        const Positions now = open.back();
+        open.pop_back();
+        bool some_may = false;
+        for (uint32_t cart = 0; cart < sheet.carts.size(); cart++) {
+            if (!may_move(sheet, lists, now, cart)) continue;
+            some_may = true;
+            Positions after = now;
+            after[cart]++;
+            if (searched.reached.insert(after).second) open.push_back(after);
+        }
+        if (some_may) continue;
+        searched.end = now;
+        ends++;
+    }
+    check(ends == 1, "the state reached doesn't depend on the order");
+    for (uint32_t cart = 0; cart < sheet.carts.size(); cart++) {
+        if (searched.end[cart] <= sheet.carts[cart].steps.size()) searched.all_out = false;
+    }
+    return searched;
+}
+
+// ---------------------------------------------------------------------------------------------
+// The stop line of #102
+// ---------------------------------------------------------------------------------------------
+
+static uint64_t line_seen[cases::line_situations] = {};
+
+// 001, section 3.1, from its words: the timing conflict graph G' of the plan with a zone more for each lane, from it H', and
+// whether H' has a cycle.
+static bool published_graph_has_cycle(const Sheet& sheet, const Lists& lists) {
+    struct Vertex {
+        uint32_t vehicle, zone;
+    };
+    struct Edge {
+        Vertex from, to;
+    };
+    const uint32_t n = static_cast<uint32_t>(sheet.zones.size());
+    std::vector<Edge> type_1, others;
+    for (uint32_t i = 0; i < sheet.carts.size(); i++) {
+        Vertex last{i, n + sheet.carts[i].lane};                       // the stop line as a zone ahead of the first
+        for (const Step& step : sheet.carts[i].steps) {
+            type_1.push_back(Edge{last, Vertex{i, step.zone}});
+            last = Vertex{i, step.zone};
+        }
+        for (uint32_t behind = i + 1; behind < sheet.carts.size(); behind++) {
+            if (sheet.carts[behind].lane != sheet.carts[i].lane) continue;
+            others.push_back(Edge{Vertex{i, n + sheet.carts[i].lane}, Vertex{behind, n + sheet.carts[i].lane}});
+        }
+    }
+    for (uint32_t z = 0; z < n; z++) {
+        for (size_t x = 0; x < lists[z].size(); x++) {
+            for (size_t y = x + 1; y < lists[z].size(); y++) others.push_back(Edge{Vertex{lists[z][x], z}, Vertex{lists[z][y], z}});
+        }
+    }
+    const auto same = [](const Vertex& a, const Vertex& b) { return a.vehicle == b.vehicle && a.zone == b.zone; };
+    // H' has a vertex for each Type-1 edge
+    std::vector<std::pair<size_t, size_t>> edges;
+    for (size_t u = 0; u < type_1.size(); u++) {
+        for (size_t v = 0; v < type_1.size(); v++) {
+            if (same(type_1[u].to, type_1[v].from)) edges.push_back({u, v});
+            for (const Edge& e : others) {
+                // the last four rules: from each vertex involving v_{i,j} to each vertex involving v_{i',j}
+                const bool of_i = same(type_1[u].from, e.from) || same(type_1[u].to, e.from);
+                const bool of_other = same(type_1[v].from, e.to) || same(type_1[v].to, e.to);
+                if (of_i && of_other) edges.push_back({u, v});
+            }
+        }
+    }
+    // take away vertices that no edge enters until none is left
+    std::vector<bool> away(type_1.size(), false);
+    for (bool taken = true; taken;) {
+        taken = false;
+        for (size_t u = 0; u < type_1.size(); u++) {
+            bool entered = away[u];
+            for (const auto& edge : edges) entered = entered || (edge.second == u && !away[edge.first]);
+            if (entered) continue;
+            away[u] = true;
+            taken = true;
+        }
+    }
+    for (size_t u = 0; u < type_1.size(); u++) {
+        if (!away[u]) return true;
+    }
+    return false;
+}
+
+using Entering = std::vector<std::vector<int64_t>>;
+
+static int64_t leaving(const Sheet& sheet, const Entering& enter, uint32_t cart, uint32_t step) {
+    const std::vector<Step>& route = sheet.carts[cart].steps;
+    if (step + 1 == route.size()) return enter[cart][step] + route[step].passing;
+    return enter[cart][step + 1] - route[step].travel;
+}
+
+// What the waiting rules ask of this entering time, the others being these.
+static int64_t least_entering(const Sheet& sheet, const Lists& lists, const Entering& enter, uint32_t cart, uint32_t step) {
+    const Cart& c = sheet.carts[cart];
+    int64_t least = c.arrival;
+    if (step > 0) least = enter[cart][step - 1] + c.steps[step - 1].passing + c.steps[step - 1].travel;
+    for (uint32_t front = 0; step == 0 && front < cart; front++) {
+        if (sheet.carts[front].lane == c.lane) least = std::max(least, enter[front][0]);
+    }
+    const uint32_t zone = c.steps[step].zone;
+    for (uint32_t ahead : lists[zone]) {
+        if (ahead == cart) break;
+        const bool same_lane = sheet.carts[ahead].lane == c.lane;
+        const int64_t gap = same_lane ? sheet.zones[zone].follow_gap : sheet.zones[zone].cross_gap;
+        least = std::max(least, leaving(sheet, enter, ahead, step_at(sheet, ahead, zone)) + gap);
+    }
+    return least;
+}
+
+// Every run to its end, each time worked out when its move is made; all runs give the same times.
+static uint64_t check_times_of_runs(const Sheet& sheet, const Lists& lists, const Entering& wanted, const Positions& now, const Entering& enter) {
+    uint64_t runs = 0;
+    for (uint32_t cart = 0; cart < sheet.carts.size(); cart++) {
+        if (!may_move(sheet, lists, now, cart)) continue;
+        Positions after = now;
+        Entering entered = enter;
+        if (now[cart] < sheet.carts[cart].steps.size()) {
+            entered[cart][now[cart]] = least_entering(sheet, lists, enter, cart, now[cart]);
+            check(entered[cart][now[cart]] == wanted[cart][now[cart]], "the entering time does not depend on the run");
+        }
+        after[cart]++;
+        runs += check_times_of_runs(sheet, lists, wanted, after, entered);
+    }
+    return runs > 0 ? runs : 1;
+}
+
+// Of all times no later than these, only these keep the waiting rules. (The earlier of two that keep them keeps them too, so
+// none that keeps them is earlier anywhere.)
+static bool check_times_are_least(const Sheet& sheet, const Lists& lists, const Entering& wanted) {
+    uint64_t all = 1;
+    for (const std::vector<int64_t>& row : wanted) {
+        for (int64_t time : row) {
+            if (time > 4000) return false;
+            all *= static_cast<uint64_t>(time) + 1;
+            if (all > 4000) return false;
+        }
+    }
+    uint64_t keeping = 0;
+    for (uint64_t number = 0; number < all; number++) {
+        Entering enter = wanted;
+        uint64_t rest = number;
+        for (std::vector<int64_t>& row : enter) {
+            for (int64_t& time : row) {
+                const uint64_t times = static_cast<uint64_t>(time) + 1;
+                time = static_cast<int64_t>(rest % times);
+                rest /= times;
+            }
+        }
+        bool keeps = true;
+        for (uint32_t c = 0; keeps && c < enter.size(); c++) {
+            for (uint32_t step = 0; keeps && step < enter[c].size(); step++) keeps = enter[c][step] >= least_entering(sheet, lists, enter, c, step);
+        }
+        if (!keeps) continue;
+        check(enter == wanted, "no earlier times keep the waiting rules");
+        keeping++;
+    }
+    check(keeping == 1, "the times keep the waiting rules");
+    return true;
+}
+
+struct LineCounts {
+    uint64_t plans = 0, locked = 0, by_line = 0, runs = 0, least = 0, requests = 0;
+};
+
+// A readable plan of a small crossing: verdict, ring, times and requests, all held to the search.
+static void check_line(LineCounts& counts, const Sheet& sheet, const Lists& lists) {
+    const Bytes bytes = cases::sheet_to_bytes(sheet);
+    const Bytes plan = cases::plan_to_bytes(lists);
+    const uint32_t m = static_cast<uint32_t>(sheet.carts.size());
+    const Searched searched = search(sheet, lists);
+    counts.plans++;
+    check(published_graph_has_cycle(sheet, lists) == !searched.all_out, "the published graph has a cycle exactly if the search locks");
+    const JudgeAnswer judged = judge(bytes, plan, std::vector<uint32_t>(128, 0));
+    check(judged.number == (searched.all_out ? 0u : 22u), "22 exactly if the search locks");
+    for (cases::LineSituation found : cases::line_situations_judged(sheet, lists, judged)) line_seen[found]++;
+    for (const Positions& state : searched.reached) {
+        for (uint32_t a = 0; a < m; a++) {
+            for (uint32_t b = 0; b < a; b++) {
+                if (sheet.carts[a].lane == sheet.carts[b].lane) check(state[a] == 0 || state[b] > 0, "a lane is left in order");
+            }
+        }
+    }
+    if (!searched.all_out) {
+        counts.locked++;
+        if (cases::line_locks(sheet, lists)) counts.by_line++;
+        // "Follow from the lowest-numbered cart that is stuck until a cart repeats."
+        uint32_t cart = 0;
+        while (searched.end[cart] > sheet.carts[cart].steps.size()) cart++;
+        for (uint32_t i = 0; i < m; i++) cart = waits_for(sheet, lists, searched.end, cart)[0];      // now it is in the ring
+        std::vector<uint32_t> ring = {cart};
+        for (uint32_t next = waits_for(sheet, lists, searched.end, cart)[0]; next != cart;
+             next = waits_for(sheet, lists, searched.end, next)[0]) {
+            ring.push_back(next);
+        }
+        std::rotate(ring.begin(), std::min_element(ring.begin(), ring.end()), ring.end());
+        check(judged.ring.size() == ring.size(), "the ring's length");
+        for (size_t i = 0; i < ring.size(); i++) {
+            check(judged.ring[i].cart == ring[i], "the ring's carts");
+            check(judged.ring[i].zone == sheet.carts[ring[i]].steps[searched.end[ring[i]]].zone, "the ring's wanted zones");
+            for (const Positions& state : searched.reached) {
+                check(state[ring[i]] <= sheet.carts[ring[i]].steps.size(), "no run brings a ring cart out");
+            }
+        }
+        return;
+    }
+    Entering wanted;
+    for (uint32_t c = 0; c < m; c++) {
+        wanted.push_back({});
+        for (size_t step = 0; step < sheet.carts[c].steps.size(); step++) wanted[c].push_back(judged.words[8 * c + step]);
+    }
+    Entering none = wanted;
+    for (std::vector<int64_t>& row : none) std::fill(row.begin(), row.end(), 0);
+    if (count_moves(sheet) <= 9) counts.runs += check_times_of_runs(sheet, lists, wanted, Positions(m, 0), none);
+    if (check_times_are_least(sheet, lists, wanted)) counts.least++;
+
+    // every record of positions in range, every cart
+    if (count_states(sheet) > 150) return;
+    Positions positions(m, 0);
+    while (true) {
+        const bool reached = searched.reached.count(positions) > 0;
+        for (uint32_t cart = 0; cart < m; cart++) {
+            const MoveRequest request{cases::record_of(positions), cart};
+            const MoveAnswer answer = move_cart(bytes, plan, request.record, cart);
+            const size_t holding = waits_for(sheet, lists, positions, cart).size();
+            uint32_t number = 0;
+            if (holding > 0) number = 26;
+            if (positions[cart] > sheet.carts[cart].steps.size()) number = 25;
+            if (!reached) number = 23;
+            check(answer.number == number && answer.ahead == (number == 26 ? holding : 0), "moving answers as the search says");
+            counts.requests++;
+            for (cases::LineSituation found : cases::line_situations_moved(sheet, lists, request, answer)) line_seen[found]++;
+        }
+        uint32_t next = 0;
+        while (next < m && positions[next] == sheet.carts[next].steps.size() + 1) positions[next++] = 0;
+        if (next == m) return;
+        positions[next]++;
+    }
+}
+
+// #102 by hand: carts 0 and 1 on lane 0 with no zone in common, cart 2 on lane 1.
+static void line_examples() {
+    const std::vector<uint32_t> words(128, 9);
+    Sheet sheet;
+    sheet.zones = {Zone{7, 10}, Zone{7, 10}};
+    sheet.carts = {Cart{0, 0, {Step{0, 40, 0}}}, Cart{0, 0, {Step{1, 50, 0}}}, Cart{1, 0, {Step{0, 1000, 0}}}};
+    Bytes bytes = cases::sheet_to_bytes(sheet);
+    Bytes plan = cases::plan_to_bytes({{2, 0}, {1}});
+    const JudgeAnswer judged = judge(bytes, plan, words);
+    check(judged.number == 0 && judged.words[0] == 1010 && judged.words[8] == 1010 && judged.words[16] == 0 && judged.finish == 1060,
+          "line: cart 1 enters no earlier than cart 0");
+    const MoveAnswer second = move_cart(bytes, plan, record({0, 0, 0}, 0), 1);
+    check(second.number == 26 && second.ahead == 1, "line: the second of a lane asked first");
+    const MoveAnswer front = move_cart(bytes, plan, record({0, 0, 0}, 0), 0);
+    check(front.number == 26 && front.ahead == 1, "line: the first of a lane waits for the zone alone");
+    check(move_cart(bytes, plan, record({0, 1, 0}, 1), 2).number == 23, "line: no run overtakes on the lane");
+    check(move_cart(bytes, plan, record({1, 0, 2}, 3), 1).number == 0, "line: the second moves after the first");
+
+    // cart 2 goes through zone 1 behind cart 1 and is ahead of cart 0 in zone 0
+    sheet.carts[2] = Cart{1, 0, {Step{1, 5, 0}, Step{0, 5, 0}}};
+    bytes = cases::sheet_to_bytes(sheet);
+    plan = cases::plan_to_bytes({{2, 0}, {1, 2}});
+    check(cases::line_locks(sheet, {{2, 0}, {1, 2}}), "line: accepted by the base, locked with the line");
+    check(judge_program(together(bytes, plan)) ==
+              "refused 22 at 0\n"
+              "cart 0 waits at zone 0 for cart 2\n"
+              "cart 2 waits at zone 1 for cart 1\n"
+              "cart 1 waits at zone 1 for cart 0\n",
+          "line: a ring over the lane");
+    check(move_cart(bytes, plan, Record(), 0).number == 22, "line: a locked plan is refused before any move");
+
+    // S on one lane, nobody has moved: cart 1 waits for cart 0 in zone 1 and on the lane
+    Bytes one_lane = S;
+    one_lane[29] = 0;
+    const MoveAnswer both = move_cart(one_lane, cases::from_hex("01 000A 02 02 00 01 02 00 01"), Record(), 1);
+    check(both.number == 26 && both.ahead == 2, "line: held by lane and list");
+
+    // removal: cart 0's spare time is cart 1's, which is 0, so cart 0 goes first; 99 would have been a tie
+    sheet.zones = {Zone{0, 3}, Zone{0, 3}};
+    sheet.carts = {Cart{0, 0, {Step{0, 1, 0}}}, Cart{0, 0, {Step{1, 100, 0}}}, Cart{1, 0, {Step{0, 5, 0}}}};
+    Removal removal = begin_removal(sheet);
+    for (Pair& pair : removal.pairs) pair.state = PairState::undecided;
+    for (const Direction& d : costs_of_directions(removal)) check(d.cost == (d.a == 2 ? 8 : -91), "line: costs by hand");
+    const PlanningAnswer planned = make_plan(cases::sheet_to_bytes(sheet), Bytes(9, 0));
+    check(planned.room == cases::plan_to_bytes({{0, 2}, {1}}) && planned.finish == 100, "line: removal by hand");
+
+    // on one lane of three the third waits for the second, whether or not the first has moved
+    sheet.zones = {Zone{0, 0}, Zone{0, 0}, Zone{0, 0}};
+    sheet.carts = {Cart{0, 3, {Step{0, 1, 0}}}, Cart{0, 3, {Step{1, 1, 0}}}, Cart{0, 3, {Step{2, 1, 0}}}};
+    bytes = cases::sheet_to_bytes(sheet);
+    plan = cases::plan_to_bytes({{0}, {1}, {2}});
+    check(move_cart(bytes, plan, record({2, 0, 0}, 2), 2).ahead == 1, "line: the third waits for the second");
+    check(move_cart(bytes, plan, Record(), 2).ahead == 1, "line: the third waits for the second alone");
+    check(move_cart(bytes, plan, record({2, 0, 0}, 2), 1).number == 0, "line: the second goes after the first");
+}
+
+// All plans of two carts, and of three on two zones; some of three on three, and of random crossings with few lanes.
+static void check_line_on_small() {
+    Random random(102);
+    LineCounts counts;
+    for (uint32_t m = 2; m <= 3; m++) {
+        for (uint32_t n = 2; n <= 3; n++) {
+            for (const std::vector<uint32_t>& lanes : cases::all_lanes(m)) {
+                cases::for_every_tiny_crossing(random, m, n, lanes, [&](const Sheet& sheet, const Lists& lists, bool) {
+                    if (m == 3 && n == 3 && !random.one_in(100)) return;
+                    if (read_plan(cases::sheet_to_bytes(sheet), cases::plan_to_bytes(lists)).number == 0) check_line(counts, sheet, lists);
+                });
+            }
+        }
+    }
+    for (uint32_t i = 0; i < 4000; i++) {
+        const Sheet sheet = cases::random_sheet_for_line(random);
+        check_line(counts, sheet, cases::shuffled_lists(random, sheet));
+        check_line(counts, sheet, cases::one_order_lists(random, sheet));
+        for (int tried = 0; tried < 10; tried++) {
+            const Lists lists = cases::shuffled_lists(random, sheet);
+            if (cases::line_locks(sheet, lists)) check_line(counts, sheet, lists);
+        }
+    }
+    std::printf("selftest: the stop line on %llu plans, %llu locked, %llu of them by the line alone; %llu runs timed, %llu times the least, %llu requests\n",
+                static_cast<unsigned long long>(counts.plans), static_cast<unsigned long long>(counts.locked),
+                static_cast<unsigned long long>(counts.by_line), static_cast<unsigned long long>(counts.runs),
+                static_cast<unsigned long long>(counts.least), static_cast<unsigned long long>(counts.requests));
+    check(counts.by_line > 0 && counts.runs > 0 && counts.least > 0, "the line locks, runs are timed, and times are the least");
+}
+
+// ---------------------------------------------------------------------------------------------
 // The planners of #101
 // ---------------------------------------------------------------------------------------------
 
 static uint64_t planners_seen[cases::planners_situations] = {};
-
-// A cart's next move by document 01's words and the lists themselves, not by way of independent.hpp's orders.
-static bool may_move(const Sheet& sheet, const Lists& lists, const Positions& positions, uint32_t cart) {
-    const std::vector<Step>& route = sheet.carts[cart].steps;
-    if (positions[cart] > route.size()) return false;
-    if (positions[cart] == route.size()) return true;
-    for (uint32_t ahead : lists[route[positions[cart]].zone]) {
-        if (ahead == cart) break;
-        uint32_t step = 0;
-        while (sheet.carts[ahead].steps[step].zone != route[positions[cart]].zone) step++;
-        if (positions[ahead] < step + 2) return false;
-    }
-    return true;
-}
-
-// Every state that permitted moves reach; whether all carts are out in one of them.
-static bool search_brings_all_out(const Sheet& sheet, const Lists& lists) {
-    const Positions start(sheet.carts.size(), 0);
-    std::set<Positions> reached = {start};
-    std::vector<Positions> open = {start};
-    bool all_out = false;
-    while (!open.empty()) {
-        const Positions now = open.back();
-        open.pop_back();
-        bool some_inside = false;
-        for (uint32_t cart = 0; cart < sheet.carts.size(); cart++) {
-            if (now[cart] <= sheet.carts[cart].steps.size()) some_inside = true;
-            if (!may_move(sheet, lists, now, cart)) continue;
-            Positions after = now;
-            after[cart]++;
-            if (reached.insert(after).second) open.push_back(after);
-        }
-        if (!some_inside) all_out = true;
-    }
-    return all_out;
-}
 
 // All three planners on a valid sheet, into room with bytes beyond; what #101 says of them, and what the search finds.
 static void check_planners(const Bytes& bytes) {
@@ -399,7 +739,7 @@ static void check_planners(const Bytes& bytes) {
         const Bytes plan(answers[p].room.begin(), answers[p].room.begin() + length);
         const PlanAnswer read = read_plan(bytes, plan);
         check(read.number == 0, "the planner's plan is readable");
-        if (count_states(sheet) <= 400) check(search_brings_all_out(sheet, read.lists), "the planner's plan is not locked, by search");
+        if (count_states(sheet) <= 400) check(search(sheet, read.lists).all_out, "the planner's plan is not locked, by search");
         check(judge(bytes, plan, std::vector<uint32_t>(128, 0)).finish == answers[p].finish, "finish is the judge's");
         if (p != 1) continue;
         for (const std::vector<uint32_t>& list : read.lists) {
@@ -413,6 +753,7 @@ static void check_planners(const Bytes& bytes) {
     check(answers[2].finish <= answers[0].finish && answers[2].finish <= answers[1].finish, "better is no later than either");
     check(answers[2].finish == wanted.finish && answers[2].room == wanted.room, "better is the earlier, the removal plan if equal");
     for (cases::PlannersSituation found : cases::situations_of(sheet, answers[0], answers[1])) planners_seen[found]++;
+    for (cases::LineSituation found : cases::line_situations_planned(sheet)) line_seen[found]++;
 }
 
 // All routes and lanes. Among all plans of the smallest, first come's is accepted and the better plan is no earlier than the
@@ -506,6 +847,14 @@ static void print_first_come_lines() {
         }
         if (take) sheets.push_back(bytes);
     }
+    // and some in whose first-come plan the stop line decides a time
+    while (sheets.size() < 49) {
+        const Sheet sheet = cases::random_sheet_for_line(random);
+        const Bytes bytes = cases::sheet_to_bytes(sheet);
+        const WorkedOut planned = plan_first_come(bytes, sheet);
+        const JudgeAnswer judged = judge(bytes, planned.plan, std::vector<uint32_t>(128, 0));
+        if (cases::line_decides(sheet, planned.lists, judged.words)) sheets.push_back(bytes);
+    }
     for (const Bytes& sheet : sheets) std::printf("%s\n", first_come_line(sheet).c_str());
 }
 
@@ -528,6 +877,42 @@ static void run_first_come() {
         check(planners_seen[s] > seen_before[s], std::string("first come: never seen ") + cases::planners_situation_names[s]);
     }
     std::printf("selftest: %u stored sheets of the planners\n", sheets);
+}
+
+// ---------------------------------------------------------------------------------------------
+// Stored sheets and the removal rule's plans, which the python programs read
+// ---------------------------------------------------------------------------------------------
+
+constexpr const char* planned_file = "compare/planned.txt";
+
+static std::vector<std::string> lines_of(const char* file) {
+    std::ifstream input(file);
+    std::vector<std::string> lines;
+    for (std::string line; std::getline(input, line);) lines.push_back(line);
+    return lines;
+}
+
+// The file's lines with each of its sheets planned anew: after what the sheet is for its finish and how often a group is cut,
+// and below these the sheet and its plan.
+static std::vector<std::string> planned_lines() {
+    std::vector<std::string> lines = lines_of(planned_file);
+    for (size_t at = 0; at < lines.size(); at++) {
+        if (lines[at][0] == '#') continue;
+        const std::string sheet = lines[at].substr(0, lines[at].find(' '));
+        const PlanningAnswer answer = make_plan(cases::from_hex(sheet), Bytes(156, 0));
+        check(answer.number == 0, "planned: a valid sheet");
+        std::string& above = lines[at - 1];
+        above = above.substr(0, above.find(';')) + "; finish " + std::to_string(answer.finish) + ", cut " + std::to_string(answer.cuts) + " times";
+        lines[at] = sheet + " " + hex(Bytes(answer.room.begin(), answer.room.begin() + answer.length));
+    }
+    return lines;
+}
+
+static void run_planned() {
+    const std::vector<std::string> lines = planned_lines();
+    check(lines == lines_of(planned_file), "planned: the stored plans, finishes and cuts");
+    const auto sheets = std::count_if(lines.begin(), lines.end(), [](const std::string& line) { return line[0] != '#'; });
+    std::printf("selftest: %ld stored sheets of the removal rule\n", static_cast<long>(sheets));
 }
 
 static void describe(const Case& c) {
@@ -582,15 +967,28 @@ int main(int words, char** word) {
             print_first_come_lines();
             return 0;
         }
+        if (words == 2 && std::strcmp(word[1], "planned") == 0) {
+            for (const std::string& line : planned_lines()) std::printf("%s\n", line.c_str());
+            return 0;
+        }
         examples();
         std::printf("selftest: examples 1 to 15 as document 01 says\n");
         run_cut_groups();
         run_first_come();
+        run_planned();
         check_planners_on_tiny();
         Random random(7);
-        for (uint32_t i = 0; i < 1500; i++) check_planners(cases::sheet_to_bytes(cases::random_sheet_for_planners(random)));
+        for (uint32_t i = 0; i < 1500; i++) {
+            check_planners(cases::sheet_to_bytes(cases::random_sheet_for_planners(random)));
+            check_planners(cases::sheet_to_bytes(cases::random_sheet_for_line(random)));
+        }
         for (int s = 0; s < cases::planners_situations; s++) {
             check(planners_seen[s] > 0, std::string("planners: never seen ") + cases::planners_situation_names[s]);
+        }
+        line_examples();
+        check_line_on_small();
+        for (int s = 0; s < cases::line_situations; s++) {
+            check(line_seen[s] > 0, std::string("the stop line: never seen ") + cases::line_situation_names[s]);
         }
     } catch (const std::exception& error) {
         std::fprintf(stderr, "selftest: failed: %s\n", error.what());

@@ -27,7 +27,7 @@ use Rattle.plan.specs.Written.{count, listed}
 use Rattle.plan.specs.Valid.{passingList, ahead, Shaped, ValidEntry, ValidOrders}
 use Rattle.plan.specs.declared.Orders.{Orders}
 use Rattle.plan.proofs.Visitors.{count-values, visitors-most, step-cart, step-valid, steps-most, visitor-cart}
-use Rattle.crossing.specs.inner.Tables.{crossingBy}
+use Rattle.crossing.specs.inner.Tables.{crossingBy, sheetFronts}
 use Rattle.crossing.specs.Plans.{routesOf, listsOf, ordersBy}
 use Rattle.crossing.proofs.Tables.{steps-is, zone-is}
 use Rattle.crossing.proofs.Sheets.{step-is}
@@ -40,8 +40,8 @@ module _ (sheet : Sheet) (v : Valid sheet) where
     λ e.
         let (j, h, at) = says .0 e in
         let l : c < 16 = omega (arith, step-cart sheet v c j h, v .carts-most) in
-        let below : j < length (getD (routesOf sheet) c []) = omega (arith, steps-is (sheet .steps) (sheet .zone) [] c l) in
-        (j, below, zone-is (sheet .steps) (sheet .zone) [] c l j below ∙ at),
+        let below : j < length (getD (routesOf sheet) c []) = omega (arith, steps-is (sheet .steps) (sheet .zone) (sheetFronts sheet) [] c l) in
+        (j, below, zone-is (sheet .steps) (sheet .zone) (sheetFronts sheet) [] c l j below ∙ at),
     λ (j, h, at). let (below, there) = step-is sheet v [] c j h in says .1 (j, below, sym there ∙ at),
   )
     where

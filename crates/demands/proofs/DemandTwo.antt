@@ -21,12 +21,13 @@ use Rattle.moves.specs.inner.Runs.{AllComeOut}
 use Rattle.moves.proofs.Positions.{sum-most}
 use Rattle.routes.specs.Crossing.{Crossing, steps}
 use Rattle.routes.specs.Moves.{system}
+use Rattle.routes.specs.inner.Lists.{Named}
 use Rattle.routes.specs.inner.Plans.{Complete}
 use Rattle.routes.specs.inner.Orders.{OnlyVisitors}
 use Rattle.routes.proofs.Moves.{out-steps, meetable}
 use Rattle.routes.proofs.Plans.{plan-visitors}
 use Rattle.graph.specs.Graph.{Cyclic}
-use Rattle.graph.proofs.Agrees.{graph-locked, graph-accepts, graph-agrees}
+use Rattle.graph.proofs.StopLine.{graph-locked, graph-accepts, graph-agrees}
 use Rattle.times.specs.Times.{Given, finish}
 use Rattle.times.specs.inner.Times.{EnteringTimes, Ranged}
 use Rattle.times.proofs.Entered.{entering-same}
@@ -34,6 +35,7 @@ use Rattle.times.proofs.Times.{times-least}
 use Rattle.times.proofs.Rules.{times-keep}
 use Rattle.times.proofs.Finish.{finish-most, finish-unique, finish-bound}
 use Rattle.times.proofs.Published.{published-agrees}
+use Rattle.times.proofs.Fronts.{front-first}
 use Rattle.sheet.specs.Checks.{sheetChecks}
 use Rattle.sheet.specs.Reading.{sheetOf, sheetDone, readSheet}
 use Rattle.sheet.specs.Valid.{Valid}
@@ -52,10 +54,10 @@ use Rattle.plan.proofs.RoundTrip.{written-readable}
 use Rattle.plan_writer.specs.Writing.{writingChecks, notWritten, wrote, writeAgain, roomAfter}
 use Rattle.plan_writer.specs.declared.PlanWritten.{PlanWritten}
 use Rattle.plan_writer.proofs.SameBytes.{same-bytes}
-use Rattle.crossing.specs.inner.Tables.{crossingBy}
+use Rattle.crossing.specs.inner.Tables.{crossingBy, sheetFronts}
 use Rattle.crossing.specs.Plans.{sheetGiven, routesOf, listsOf, planCrossing}
 use Rattle.crossing.proofs.Tables.{step-below}
-use Rattle.crossing.proofs.Plans.{plan-complete, plan-sound}
+use Rattle.crossing.proofs.Plans.{plan-complete, plan-zones, plan-sound}
 use Rattle.judge_entering.specs.Times.{timesOf}
 use Rattle.judge.specs.Judging.{isOut, enteringTime, timeWords, judged, withTimes, ordersRead, judge, wordsAfter}
 use Rattle.judge.specs.declared.Judged.{Judged}
@@ -68,7 +70,7 @@ use Rattle.planner.specs.declared.Planned.{Planned}
 use Rattle.planner.specs.declared.Rule.{Rule}
 use Rattle.planner.proofs.NotLocked.{planned-read, planned-length, planned-finish, planned-judged}
 use Rattle.demands.specs.DemandTwo as two
-use Rattle.demands.specs.DemandTwo.{Readable, given, Verdict, TimesTold, JudgedRightly, PlannedRightly, ReadBack, SameBytes}
+use Rattle.demands.specs.DemandTwo.{Readable, given, lined, Verdict, TimesTold, JudgedRightly, PlannedRightly, ReadBack, SameBytes}
 
 -- no position is above the sum
 pos-sum : (s : List ℕ) (c : ℕ) → pos s c ≤ sum s
@@ -95,12 +97,23 @@ module _ (s p : List ℕ) where
   full : Readable s p → Complete (routesOf (sheetOf s)) (listsOf (sheetOf s) (ordersRead s p))
   full readable = plan-complete (sheetOf s) (said-sheet s p readable) (ordersRead s p) (said-valid s p readable)
 
-  -- the verdict is the published graph's
-  locked-cyclic : Readable s p → isOut (sheetOf s) (ordersRead s p) ≡ false → Cyclic X
-  locked-cyclic readable e = graph-locked _ _ (full readable) .1 (λ all. true≢false (sym (accepts-out (sheetOf s) (ordersRead s p) .1 all) ∙ e))
+  -- zones and lanes are numbered so that each stop line is a zone of its own
+  zone-below : Readable s p → (c z : ℕ) → Named (getD (routesOf (sheetOf s)) c []) z → z < sheetOf s .zones
+  zone-below readable = plan-zones (sheetOf s) (said-sheet s p readable) (ordersRead s p) (said-valid s p readable)
 
-  accepted-acyclic : Readable s p → isOut (sheetOf s) (ordersRead s p) ≡ true → ¬ (Cyclic X)
-  accepted-acyclic readable e = graph-accepts _ _ (full readable) .1 (accepts-out (sheetOf s) (ordersRead s p) .0 e)
+  lane-below : Readable s p → (c : ℕ) → 0 < length (getD (routesOf (sheetOf s)) c []) → given s p .lane c < 16
+  lane-below readable c some =
+      omega (arith, plan-sound (sheetOf s) (said-sheet s p readable) (ordersRead s p) (said-valid s p readable) .ranged .lane-most c)
+
+  -- the verdict is the published graph's, with the stop line
+  locked-cyclic : Readable s p → isOut (sheetOf s) (ordersRead s p) ≡ false → Cyclic (lined s p)
+  locked-cyclic readable e =
+      graph-locked _ _ _ _ _ (full readable) (zone-below readable) (lane-below readable) .1
+      (λ all. true≢false (sym (accepts-out (sheetOf s) (ordersRead s p) .1 all) ∙ e))
+
+  accepted-acyclic : Readable s p → isOut (sheetOf s) (ordersRead s p) ≡ true → ¬ (Cyclic (lined s p))
+  accepted-acyclic readable e =
+      graph-accepts _ _ _ _ _ (full readable) (zone-below readable) (lane-below readable) .1 (accepts-out (sheetOf s) (ordersRead s p) .0 e)
 
   module _ (room : ℕ) (r : Judged) (is : r ≡ judge s p room) where
     number-is : r .outcome .number ≡ judge s p room .outcome .number
@@ -121,7 +134,7 @@ module _ (s p : List ℕ) where
             let out : isOut (sheetOf s) (ordersRead s p) ≡ true = not-eq-not {b = true} .0 (λ e. acyclic (locked-cyclic readable e)) in
             number-is ∙ ap (λ (x : Judged). x .outcome .number) (judge-accepted s p readable out room long),
       );
-      of-moves = λ readable. graph-agrees _ _ (full readable);
+      of-moves = λ readable. graph-agrees _ _ _ _ _ (full readable) (zone-below readable) (lane-below readable);
     }
 
   -- the words hold the times that judging works out, and these are the only ones
@@ -134,7 +147,7 @@ module _ (s p : List ℕ) where
     judgedTime = enteringTime (sheetOf s) (ordersRead s p)
 
     only : OnlyVisitors X
-    only = plan-visitors _ _ (full readable)
+    only = plan-visitors (X .front) _ _ (full readable)
 
     all : AllComeOut (system X) (start (system X))
     all = accepts-out (sheetOf s) (ordersRead s p) .0 accepted
@@ -160,7 +173,8 @@ module _ (s p : List ℕ) where
     word-is : (c j : ℕ) → j < steps X c → timesOf after c j ≡ judgedTime c j
     unfolding timeWords crossingBy
     word-is c j h =
-        let place : 8 * c + j < 128 = omega (arith, ranged .steps-most c, step-below (sheetOf s .steps) (sheetOf s .zone) (ordersRead s p .ahead) c j h) in
+        let place : 8 * c + j < 128 = omega
+        (arith, ranged .steps-most c, step-below (sheetOf s .steps) (sheetOf s .zone) (sheetFronts (sheetOf s)) (ordersRead s p .ahead) c j h) in
         let sized : length (timeWords (sheetOf s) (ordersRead s p)) ≡ 128 = length-entries 128 0 _ in
         ap (λ (l : List ℕ). getD l (8 * c + j) 0) is
         ∙ List·getD-append (timeWords (sheetOf s) (ordersRead s p)) (drop 128 words) 0 (8 * c + j) (omega (arith, sized, place))
@@ -182,6 +196,7 @@ module _ (s p : List ℕ) where
           equations = published-agrees X G (timesOf after) .1 told;
           kept = times-keep X G only (timesOf after) told;
           earliest = λ u keeps. times-least X G only all (timesOf after) u told keeps;
+          in-line = λ d c. front-first X c (timesOf after) G told d;
           last = last;
           bound = omega (arith, last, finish-bound X G only all (timesOf after) told ranged);
           counted = counted;

@@ -11,6 +11,7 @@ use Rattle.moves.specs.Runs.{greedy, end}
 use Rattle.moves.specs.Records.{isInRange, isClosed}
 use Rattle.moves.specs.Values.{put, workedOut}
 use Rattle.moves.specs.Rings.{leastFrom, between, ringFirst, ringRest}
+use Rattle.routes.specs.Lanes.{highest, nextInFront}
 use Rattle.routes.specs.Lists.{allBelow, placeOf, isAhead, firstOf}
 use Rattle.times.specs.Times.{largest, entering, finish}
 use Rattle.sheet.specs.Layout.{cartAt}
@@ -36,20 +37,20 @@ use Rattle.moving_record.specs.Record.{isReached}
 use Rattle.moving_asking.specs.Ahead.{countAhead, aheadOf}
 use Rattle.moving_asking.specs.Asking.{ask}
 use Rattle.moving.specs.Moving.{recordAfter}
-use Rattle.demands.specs.Examples.{firstCost, leavingTimes, Holds, examples}
+use Rattle.demands.specs.Examples.{firstCost, leavingTimes, Holds, examples, stopLine}
 
-pub examples-hold : All Holds examples
-unfolding firstCost leavingTimes planSheet roomAfter planned orderedBy ordersBy passingLists finalOrders decisions solved trial turn decide candidates while turns largestCost cost isTakenOver spareTime spareRule leastOf workedBack movesMade isOut enteringTime isUndecided goesBefore pairOrder isPair rank isDecided written listsBytes listBytes bytesOf sumBelow setBelow readSheet readPlan judge wordsAfter ask recordAfter aheadOf countAhead isReached isInRange isClosed lockedRing timeWords lowestStuck ringFrom lowest isPermitted greedy end put workedOut leastFrom between ringFirst ringRest allBelow placeOf isAhead firstOf largest entering finish givenBy ordersOf sheetChecks zoneChecks stepChecks cartChecks laneChecks firstFailing fieldChecks value each entries anyBelow countBelow cartAt sheetOf countAt planChecks listChecks planCartChecks planLaneChecks
-examples-hold = (
-  (refl, refl),
+-- both tables, by computing
+both-hold : All Holds examples × All Holds stopLine
+unfolding firstCost leavingTimes planSheet roomAfter planned orderedBy ordersBy passingLists finalOrders decisions solved trial turn decide candidates while turns largestCost cost isTakenOver spareTime spareRule leastOf workedBack movesMade isOut enteringTime isUndecided goesBefore pairOrder isPair rank isDecided written listsBytes listBytes bytesOf sumBelow setBelow readSheet readPlan judge wordsAfter ask recordAfter aheadOf countAhead isReached isInRange isClosed lockedRing timeWords lowestStuck ringFrom nextInFront highest lowest isPermitted greedy end put workedOut leastFrom between ringFirst ringRest allBelow placeOf isAhead firstOf largest entering finish givenBy ordersOf sheetChecks zoneChecks stepChecks cartChecks laneChecks firstFailing fieldChecks value each entries anyBelow countBelow cartAt sheetOf countAt planChecks listChecks planCartChecks planLaneChecks
+both-hold = (
   (
-    refl,
+    (refl, refl),
     (
-      (refl, refl),
+      refl,
       (
         (refl, refl),
         (
-          refl,
+          (refl, refl),
           (
             refl,
             (
@@ -57,18 +58,21 @@ examples-hold = (
               (
                 refl,
                 (
-                  (refl, refl),
+                  refl,
                   (
-                    refl,
+                    (refl, refl),
                     (
                       refl,
                       (
                         refl,
                         (
-                          (refl, refl),
+                          refl,
                           (
                             (refl, refl),
-                            ((refl, refl), ((refl, refl), ((refl, refl), ((refl, refl), ((refl, refl), ((refl, refl), ((refl, refl), tt))))))),
+                            (
+                              (refl, refl),
+                              ((refl, refl), ((refl, refl), ((refl, refl), ((refl, refl), ((refl, refl), ((refl, refl), ((refl, refl), tt))))))),
+                            ),
                           ),
                         ),
                       ),
@@ -82,4 +86,12 @@ examples-hold = (
       ),
     ),
   ),
+  ((refl, refl), ((refl, refl), ((refl, refl), tt))),
 )
+
+pub examples-hold : All Holds examples
+examples-hold = both-hold .0
+
+-- rows of our own for request #102
+pub stop-line-holds : All Holds stopLine
+stop-line-holds = both-hold .1

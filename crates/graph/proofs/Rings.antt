@@ -1,7 +1,7 @@
 -- The ring of a complete plan's carts, read backwards, is a cycle of the graph: from the cart pointed to there is a way to the cart that points.
 use Prim.Native.Nat.{ℕ, zero, suc, _+_, _-_, _≤_, _<_}
 use mathlib.Core.Path.{_≡_, ap, sym, subst, _∙_}
-use mathlib.Core.Logic.{_≢_, inl, inr}
+use mathlib.Core.Logic.{_≢_, inl, inr, ⊎-elim}
 use mathlib.Core.Bool.{true, true≢false}
 use mathlib.Core.List.{List}
 use native.Mathlib.Decide.{decLt, ℕ-discrete}
@@ -14,19 +14,21 @@ use Rattle.routes.specs.Lists.{firstOf}
 use Rattle.routes.specs.Crossing.{Crossing, route, steps, zone, stepIn, leftAt}
 use Rattle.routes.specs.Moves.{system}
 use Rattle.routes.specs.inner.Orders.{OnlyVisitors}
-use Rattle.routes.specs.Plans.{listOf, plan, pointsTo}
+use Rattle.routes.specs.Plans.{listOf, plan, firstNotLeft}
 use Rattle.routes.proofs.Places.{place-below, place-names}
 use Rattle.routes.proofs.Ahead.{ahead-self}
-use Rattle.routes.proofs.Moves.{need-behind}
+use Rattle.routes.proofs.Lanes.{front-says}
+use Rattle.routes.proofs.Moves.{need-short}
 use Rattle.graph.specs.Graph.{direct, Cyclic}
 use Rattle.graph.proofs.Ways.{way-join, StepWay, own-way, Involves, involved-edge}
 
-module _ (routes lists : List (List ℕ)) (only : OnlyVisitors (plan routes lists)) (s : List ℕ) where
+-- nobody is in front of another: stop lines are zones here
+module _ (routes lists : List (List ℕ)) (only : OnlyVisitors (plan (λ c. 0) routes lists)) (s : List ℕ) where
   abbrev X : Crossing
-  X = plan routes lists
+  X = plan (λ c. 0) routes lists
 
   abbrev to : ℕ → ℕ
-  to = pointsTo routes lists s
+  to = firstNotLeft (λ c. 0) routes lists s
 
   -- the zone that c wants
   abbrev wanted : ℕ → ℕ
@@ -46,7 +48,8 @@ module _ (routes lists : List (List ℕ)) (only : OnlyVisitors (plan routes list
 
   waits-blocked : (c : ℕ) → Waits (system X) s c (to c) → Blocked c
   waits-blocked c w =
-      let ((inside, ahead), short) = need-behind X c (pos s c) (to c) (pos s (to c)) (w .short) in
+      ⊎-elim
+      (λ ((inside, ahead), short).
       let v = only (wanted c) (to c) c ahead in
       record {
         inside = inside;
@@ -54,7 +57,9 @@ module _ (routes lists : List (List ℕ)) (only : OnlyVisitors (plan routes list
         visits = place-below (route X (to c)) (wanted c) v;
         is-there = place-names (route X (to c)) (wanted c) v;
         not-left = omega arith;
-      }
+      })
+      (λ ((_, f), _). absurd (omega (arith, front-says X (to c) c .0 f .is)))
+      (need-short X c (pos s c) (to c) (pos s (to c)) (w .short))
 
   -- the cart pointed to wants another zone: in this one it is the first that has not left
   other-zone : (c : ℕ) → Blocked (to c) → wanted (to c) ≢ wanted c

@@ -1,2 +1,3 @@
 pub mod Graph
+pub mod StopLine
 pub mod inner

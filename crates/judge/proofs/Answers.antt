@@ -14,7 +14,7 @@ use Rattle.sheet.specs.Valid.{Valid}
 use Rattle.sheet.specs.declared.Sheet.{Sheet}
 use Rattle.plan.specs.Valid.{ValidOrders}
 use Rattle.plan.specs.declared.Orders.{Orders}
-use Rattle.crossing.specs.inner.Tables.{sheetCrossing}
+use Rattle.crossing.specs.inner.Tables.{sheetFronts, sheetCrossing}
 use Rattle.crossing.specs.Plans.{sheetGiven}
 use Rattle.crossing.specs.Plans.{routesOf, listsOf, planCrossing}
 use Rattle.crossing.proofs.Plans.{plan-system}
@@ -45,7 +45,7 @@ module _ (sheet : Sheet) (orders : Orders) (v : Valid sheet) (w : ValidOrders sh
   ends = settled-end sheet orders v w (sheetGiven sheet) enter order run runs
 
   pub locked-answer : run .out ≡ false → (ring : Ring)
-      → ring ≡ ringBy (pointIn (sheet .steps) (sheet .zone) (orders .count) (orders .list) (run .at) (run .left))
+      → ring ≡ ringBy (pointIn (sheet .steps) (sheet .zone) (sheetFronts sheet) (orders .count) (orders .list) (run .at) (run .left))
       (wantedIn (sheet .steps) (sheet .zone) (run .at)) 16 (run .stuck)
       → JudgedAs sheet orders words (notJudged (refused 22 0) ring) words
   unfolding firstFailing lockedRing
@@ -53,8 +53,9 @@ module _ (sheet : Sheet) (orders : Orders) (v : Valid sheet) (w : ValidOrders sh
       let locked : isOut sheet orders ≡ false = sym verdict ∙ l in
       let told : ring ≡ lockedRing sheet orders =
       is ∙ ring-is sheet v (run .at) orders w (run .left) (runs .settled .left-is) (run .stuck) (runs .one-stuck l)
-      ∙ ap (λ (s : List ℕ). ringOf (routesOf sheet) (listsOf sheet orders) s (run .stuck)) ends
-      ∙ ap (ringOf (routesOf sheet) (listsOf sheet orders) (atEnd sheet orders)) (stuck-lowest sheet orders v w (sheetGiven sheet) enter order run runs) in
+      ∙ ap (λ (s : List ℕ). ringOf (planCrossing sheet orders .front) (routesOf sheet) (listsOf sheet orders) s (run .stuck)) ends
+      ∙ ap (ringOf (planCrossing sheet orders .front) (routesOf sheet) (listsOf sheet orders) (atEnd sheet orders))
+      (stuck-lowest sheet orders v w (sheetGiven sheet) enter order run runs) in
       rw locked (ap (notJudged (refused 22 0)) told, refl)
 
   module _ (none : run .out ≡ true) where

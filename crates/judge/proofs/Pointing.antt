@@ -1,5 +1,5 @@
--- In a readable plan the tables tell which zone a cart wants and whom it points to.
-use Prim.Native.Nat.{ℕ, zero, suc, _+_, _≤_, _<_}
+-- In a readable plan the tables tell which zone a cart wants and whom it points to: the table of fronts where the lane holds it, else the list.
+use Prim.Native.Nat.{ℕ, zero, suc, _+_, _-_, _≤_, _<_}
 use mathlib.Core.Path.{_≡_, refl, sym, ap, _∙_}
 use mathlib.Core.Bool.{Bool, false, not, not-eq-not}
 use mathlib.Core.List.{List, []}
@@ -15,17 +15,19 @@ use Rattle.moves.specs.System.{pos}
 use Rattle.routes.specs.Lists.{firstOf}
 use Rattle.routes.specs.Crossing.{Crossing, route, steps, zone, leftAt}
 use Rattle.routes.specs.inner.Crossing.{Visits}
-use Rattle.routes.specs.Plans.{listOf, pointsTo}
+use Rattle.routes.specs.Lanes.{laneHolds}
+use Rattle.routes.specs.Plans.{listOf, plan, pointsTo}
+use Rattle.routes.proofs.Lanes.{holds-says}
 use Rattle.routes.proofs.Moves.{left-says}
 use Rattle.sheet.specs.Valid.{Valid}
 use Rattle.sheet.specs.declared.Sheet.{Sheet}
 use Rattle.plan.specs.Valid.{passingList, ValidOrders}
 use Rattle.plan.specs.Written.{count, listed}
 use Rattle.plan.specs.declared.Orders.{Orders}
-use Rattle.crossing.specs.inner.Tables.{crossingBy, sheetCrossing, LeftSet}
+use Rattle.crossing.specs.inner.Tables.{crossingBy, sheetFronts, sheetCrossing, LeftSet}
 use Rattle.crossing.specs.Plans.{routesOf, listsOf, planCrossing}
 use Rattle.crossing.proofs.Tables.{steps-is, zone-is}
-use Rattle.crossing.proofs.Plans.{plan-complete}
+use Rattle.crossing.proofs.Plans.{plan-complete, plan-fronts}
 use Rattle.judge_ring.specs.inner.Tables.{wantedIn, pointIn}
 
 -- two tests that agree on a list have the same first
@@ -41,21 +43,24 @@ module _ (sheet : Sheet) (orders : Orders) (at : List ℕ) where
   abbrev X : Crossing
   X = sheetCrossing sheet (orders .ahead)
 
+  abbrev lists : List (List ℕ)
+  lists = listsOf sheet orders
+
   pub wanted-is : (c : ℕ) → c < 16 → wantedIn (sheet .steps) (sheet .zone) at c ≡ zone (planCrossing sheet orders) c (pos at c)
   unfolding crossingBy
   wanted-is c l = go (decLt (pos at c) (steps X c))
     where
       k : steps X c ≡ getD (sheet .steps) c 0
-      k = steps-is (sheet .steps) (sheet .zone) (orders .ahead) c l
+      k = steps-is (sheet .steps) (sheet .zone) (sheetFronts sheet) (orders .ahead) c l
 
       go : Dec (pos at c < steps X c) → wantedIn (sheet .steps) (sheet .zone) at c ≡ zone X c (pos at c)
       go (yes h) = rw (lt-ltb (getD at c 0) (getD (sheet .steps) c 0) (omega (arith, h, k)))
-          (sym (zone-is (sheet .steps) (sheet .zone) (orders .ahead) c l (pos at c) h))
+          (sym (zone-is (sheet .steps) (sheet .zone) (sheetFronts sheet) (orders .ahead) c l (pos at c) h))
       go (no m) = rw (le-ltb (getD at c 0) (getD (sheet .steps) c 0) (omega (arith, m, k)))
           (sym (List·getD-eq-default (route X c) 0 {n = pos at c} (omega (arith, m))))
 
   module _ (v : Valid sheet) (w : ValidOrders sheet orders) (left : List ℕ) (left-is : (z : ℕ) → LeftSet X at z (getD left z 0)) where
-    list-is : (z : ℕ) → z < sheet .zones → listOf (listsOf sheet orders) z ≡ passingList orders z
+    list-is : (z : ℕ) → z < sheet .zones → listOf lists z ≡ passingList orders z
     list-is z l = getD-entries (sheet .zones) 0 (passingList orders) z [] l ∙ ap (passingList orders) (omega arith)
 
     -- of a cart that visits the zone, the set and the position say the same
@@ -71,18 +76,35 @@ module _ (sheet : Sheet) (orders : Orders) (at : List ℕ) where
     listed-visits : (z : ℕ) → z < sheet .zones → (k : ℕ) → k < count orders z → Visits X (listed orders z k) z
     unfolding crossingBy
     listed-visits z l k h =
-        let long : length (listOf (listsOf sheet orders) z) ≡ count orders z = ap length (list-is z l) ∙ length-entries (count orders z) 0 (listed orders z) in
-        let here : getD (listOf (listsOf sheet orders) z) k 0 ≡ listed orders z k =
+        let long : length (listOf lists z) ≡ count orders z = ap length (list-is z l) ∙ length-entries (count orders z) 0 (listed orders z) in
+        let here : getD (listOf lists z) k 0 ≡ listed orders z k =
         ap (λ (list : List ℕ). getD list k 0) (list-is z l) ∙ at-entry (count orders z) (listed orders z) k h in
         plan-complete sheet v orders w .only-visitors z (listed orders z k) (k, omega (arith, long, h), here)
 
+    -- who is in front counts for a cart with a route alone
+    front-counts : (c f g : ℕ) → (0 < steps X c → f ≡ g) → pointsTo (λ _. f) (routesOf sheet) lists at c ≡ pointsTo (λ _. g) (routesOf sheet) lists at c
+    unfolding crossingBy
+    front-counts c f g same = go (decLt 0 (steps X c))
+      where
+        free : ¬ (0 < steps X c) → (f : ℕ) → laneHolds (plan (λ _. f) (routesOf sheet) lists) at c ≡ false
+        free none f =
+            not-eq-not {b = false} .0 λ t. let (_, (_, (front, _))) = holds-says (plan (λ _. f) (routesOf sheet) lists) at c .0 t in none (front .here)
+
+        go : Dec (0 < steps X c) → pointsTo (λ _. f) (routesOf sheet) lists at c ≡ pointsTo (λ _. g) (routesOf sheet) lists at c
+        go (yes some) = ap (λ (f : ℕ). pointsTo (λ _. f) (routesOf sheet) lists at c) (same some)
+        go (no none) = rw (free none f, free none g)
+
     pub points-is : (c : ℕ) → c < 16 → wantedIn (sheet .steps) (sheet .zone) at c < sheet .zones
-        → pointIn (sheet .steps) (sheet .zone) (orders .count) (orders .list) at left c ≡ pointsTo (routesOf sheet) (listsOf sheet orders) at c
+        → pointIn (sheet .steps) (sheet .zone) (sheetFronts sheet) (orders .count) (orders .list) at left c
+        ≡ pointsTo (planCrossing sheet orders .front) (routesOf sheet) lists at c
     unfolding crossingBy
     points-is c l h =
         let z = wantedIn (sheet .steps) (sheet .zone) at c in
         let test : ℕ → Bool = λ d. ltb (pos at d) (leftAt X d z) in
+        let listed-is =
         first-same (λ d. not (has (getD left z 0) d)) test (listed orders z) (count orders z) 0
         (λ k _ b. left-same (listed orders z k) z (listed-visits z h k (omega (arith, b))))
         ∙ ap (firstOf test) (sym (list-is z h))
-        ∙ ap (λ (y : ℕ). firstOf (λ d. ltb (pos at d) (leftAt X d y)) (listOf (listsOf sheet orders) y)) (wanted-is c l)
+        ∙ ap (λ (y : ℕ). firstOf (λ d. ltb (pos at d) (leftAt X d y)) (listOf lists y)) (wanted-is c l) in
+        ap (pick (laneHolds X at c) (X .front c - 1)) listed-is
+        ∙ front-counts c (X .front c) (planCrossing sheet orders .front c) (plan-fronts sheet v orders w c)

@@ -2,7 +2,7 @@
 use Prim.Native.Nat.{ℕ, zero, suc, _+_, _≤_, _<_}
 use mathlib.Core.Path.{_≡_, sym, ap, _∙_}
 use mathlib.Core.Bool.{Bool, true, false, not}
-use mathlib.Core.List.{List}
+use mathlib.Core.List.{List, []}
 use native.Mathlib.Omega.{arith}
 use native.Mathlib.Decide.{decLt}
 use lib.ListN.{getD}
@@ -12,6 +12,7 @@ use Rattle.sets.specs.inner.Member.{has}
 use Rattle.moves.specs.System.{carts, pos}
 use Rattle.routes.specs.Lists.{firstOf}
 use Rattle.routes.specs.Crossing.{zone}
+use Rattle.routes.specs.Lanes.{laneHolds}
 use Rattle.routes.specs.Moves.{system}
 use Rattle.routes.specs.Plans.{pointsTo}
 use Rattle.sheet.specs.Valid.{Valid}
@@ -21,24 +22,26 @@ use Rattle.plan.specs.Written.{count, listed}
 use Rattle.plan.specs.declared.Orders.{Orders}
 use Rattle.plan.proofs.Visitors.{step-cart, visitors-most}
 use Rattle.plan.proofs.Lists.{listed-cart}
-use Rattle.crossing.specs.inner.Tables.{crossingBy, sheetCrossing, LeftSet}
+use Rattle.crossing.specs.inner.Tables.{crossingBy, sheetFronts, sheetCrossing, LeftSet}
 use Rattle.crossing.specs.Plans.{routesOf, listsOf, planCrossing}
 use Rattle.crossing.proofs.Tables.{carts-16}
+use Rattle.crossing.proofs.Fronts.{fronts-16}
 use Rattle.judge_ring.specs.Ring.{ringBy, ringOf}
 use Rattle.judge_ring.specs.inner.Tables.{wantedIn, Wanting, pointIn, Listable, AllListable}
 use Rattle.judge_ring.proofs.Same.{ring-same}
 use Rattle.judge.proofs.Pointing.{wanted-is, points-is}
+
+pick-below : (b : Bool) {most x y : ℕ} → x < most → y < most → pick b x y < most
+pick-below true h _ = h
+pick-below false _ h = h
 
 first-below : (test : ℕ → Bool) (rule : ℕ → ℕ) (most n i : ℕ) → 0 < most → ((k : ℕ) → i ≤ k → k < i + n → rule k < most)
     → firstOf test (entries n i rule) < most
 unfolding firstOf entries
 first-below test rule most zero i some below = some
 first-below test rule most (suc n) i some below =
-    go (test (rule i)) (first-below test rule most n (i + 1) some (λ k a b. below k (omega arith) (omega arith)))
-  where
-    go : (b : Bool) {d : ℕ} → d < most → pick b (rule i) d < most
-    go true h = below i (omega arith) (omega arith)
-    go false h = h
+    pick-below (test (rule i)) (below i (omega arith) (omega arith))
+    (first-below test rule most n (i + 1) some (λ k a b. below k (omega arith) (omega arith)))
 
 module _ (sheet : Sheet) (v : Valid sheet) (at : List ℕ) where
   pub wanted-below : (c : ℕ) → wantedIn (sheet .steps) (sheet .zone) at c < sheet .zones
@@ -72,24 +75,28 @@ module _ (sheet : Sheet) (v : Valid sheet) (at : List ℕ) where
             record { few = omega (arith, none); cart = λ k h. absurd (omega (arith, none, h)) }
 
     module _ (left : List ℕ) (left-is : (z : ℕ) → LeftSet (sheetCrossing sheet (orders .ahead)) at z (getD left z 0)) where
-      point-below : (c : ℕ) → pointIn (sheet .steps) (sheet .zone) (orders .count) (orders .list) at left c < 16
-      point-below c =
+      point-below : (c : ℕ) → c < 16 → pointIn (sheet .steps) (sheet .zone) (sheetFronts sheet) (orders .count) (orders .list) at left c < 16
+      point-below c few =
           let z = wantedIn (sheet .steps) (sheet .zone) at c in
           let l : z < 24 = omega (arith, wanted-below c, v .zones-most) in
-          first-below (λ d. not (has (getD left z 0) d)) (listed orders z) 16 (count orders z) 0 (omega arith)
-          (λ k _ b. orders-listable z l .cart k (omega (arith, b)))
+          pick-below (laneHolds (sheetCrossing sheet []) at c) (omega (arith, fronts-16 (sheet .steps) (sheet .zone) (sheet .lane) c few))
+          (first-below (λ d. not (has (getD left z 0) d)) (listed orders z) 16 (count orders z) 0 (omega arith)
+          (λ k _ b. orders-listable z l .cart k (omega (arith, b))))
 
       plan-carts : carts (system (planCrossing sheet orders)) ≡ 16
       unfolding crossingBy
-      plan-carts = carts-16 (sheet .steps) (sheet .zone) (orders .ahead)
+      plan-carts = carts-16 (sheet .steps) (sheet .zone) (sheetFronts sheet) (orders .ahead)
 
       pub ring-is : (c : ℕ) → c < 16
-          → ringBy (pointIn (sheet .steps) (sheet .zone) (orders .count) (orders .list) at left) (wantedIn (sheet .steps) (sheet .zone) at) 16 c
-          ≡ ringOf (routesOf sheet) (listsOf sheet orders) at c
+          → ringBy (pointIn (sheet .steps) (sheet .zone) (sheetFronts sheet) (orders .count) (orders .list) at left)
+          (wantedIn (sheet .steps) (sheet .zone) at) 16 c
+          ≡ ringOf (planCrossing sheet orders .front) (routesOf sheet) (listsOf sheet orders) at c
       ring-is c h =
-          ring-same _ (pointsTo (routesOf sheet) (listsOf sheet orders) at) _ (λ d. zone (planCrossing sheet orders) d (pos at d)) 16
+          ring-same _ points _ (λ d. zone (planCrossing sheet orders) d (pos at d)) 16
           (λ d l. points-is sheet orders at v w left left-is d l (wanted-below d))
-          (λ d _. point-below d)
+          point-below
           (λ d l. wanted-is sheet orders at d l) c h
-          ∙ ap (λ (n : ℕ). ringBy (pointsTo (routesOf sheet) (listsOf sheet orders) at) (λ d. zone (planCrossing sheet orders) d (pos at d)) n c)
-          (sym plan-carts)
+          ∙ ap (λ (n : ℕ). ringBy points (λ d. zone (planCrossing sheet orders) d (pos at d)) n c) (sym plan-carts)
+        where
+          points : ℕ → ℕ
+          points = pointsTo (planCrossing sheet orders .front) (routesOf sheet) (listsOf sheet orders) at

@@ -21,7 +21,7 @@ use Rattle.sheet.specs.Valid.{Valid}
 use Rattle.sheet.specs.declared.Sheet.{Sheet}
 use Rattle.plan.specs.Valid.{ValidOrders}
 use Rattle.plan.specs.declared.Orders.{Orders}
-use Rattle.crossing.specs.inner.Tables.{crossingBy, sheetCrossing}
+use Rattle.crossing.specs.inner.Tables.{crossingBy, sheetCrossing, sheetFronts}
 use Rattle.crossing.specs.Plans.{planCrossing}
 use Rattle.crossing.proofs.Tables.{carts-16, steps-is}
 use Rattle.crossing.proofs.Plans.{plan-system}
@@ -42,12 +42,12 @@ module _ (sheet : Sheet) (orders : Orders) where
 
   pub plan-carts : carts S ≡ 16
   unfolding crossingBy
-  plan-carts = carts-16 (sheet .steps) (sheet .zone) (orders .ahead)
+  plan-carts = carts-16 (sheet .steps) (sheet .zone) (sheetFronts sheet) (orders .ahead)
 
   -- how far cart c goes, as the sheet's table tells it
   pub out-at : (c : ℕ) → c < 16 → pos (S .out) c ≡ movesOf (getD (sheet .steps) c 0)
   unfolding crossingBy
-  out-at c l = out-are (planCrossing sheet orders) c ∙ ap movesOf (steps-is (sheet .steps) (sheet .zone) (orders .ahead) c l)
+  out-at c l = out-are (planCrossing sheet orders) c ∙ ap movesOf (steps-is (sheet .steps) (sheet .zone) (sheetFronts sheet) (orders .ahead) c l)
 
   -- "The judge accepts exactly when" all come out
   pub accepts-out : (isOut sheet orders ≡ true) ↔ AllComeOut S (start S)

@@ -28,7 +28,7 @@ use Rattle.sheet.specs.declared.Sheet.{Sheet}
 use Rattle.plan.specs.Valid.{ValidOrders}
 use Rattle.plan.specs.declared.Orders.{Orders}
 use Rattle.plan.proofs.Visitors.{step-valid, steps-most}
-use Rattle.crossing.specs.inner.Tables.{crossingBy, sheetCrossing}
+use Rattle.crossing.specs.inner.Tables.{crossingBy, sheetCrossing, sheetFronts}
 use Rattle.crossing.specs.Plans.{sheetGiven}
 use Rattle.crossing.specs.Plans.{routesOf, listsOf, planCrossing}
 use Rattle.crossing.proofs.Plans.{plan-complete, plan-only, plan-entering}
@@ -64,7 +64,7 @@ module _ (sheet : Sheet) (orders : Orders) (v : Valid sheet) (w : ValidOrders sh
   G = sheetGiven sheet
 
   only : OnlyVisitors P
-  only = plan-visitors (routesOf sheet) (listsOf sheet orders) (plan-complete sheet v orders w)
+  only = plan-visitors (P .front) (routesOf sheet) (listsOf sheet orders) (plan-complete sheet v orders w)
 
   module _ (accepted : isOut sheet orders ≡ true) where
     -- "Entering times are those of the paper's equations"
@@ -79,7 +79,8 @@ module _ (sheet : Sheet) (orders : Orders) (v : Valid sheet) (w : ValidOrders sh
       pub finish-told : largest (lastLeaving (sheet .steps) (sheet .passing) enter) 16 ≡ finish P G (enteringTime sheet orders)
       unfolding crossingBy finish
       finish-told =
-          finish-is (sheet .steps) (sheet .zone) (orders .ahead) (sheet .lane) (sheet .arrival) (sheet .passing) (sheet .travel) (sheet .follow)
+          finish-is (sheet .steps) (sheet .zone) (sheetFronts sheet) (orders .ahead) (sheet .lane) (sheet .arrival) (sheet .passing) (sheet .travel)
+          (sheet .follow)
           (sheet .cross) enter
           (times-keep X G (plan-only sheet v orders w) (timesOf enter) is)
           ∙ finish-unique P G only (allMade P accepted) (timesOf enter) is-plan (enteringTime sheet orders) judged-times

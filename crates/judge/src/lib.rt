@@ -1,4 +1,5 @@
 // The judge: a plan's verdict with its entering times, finish and moves, or its ring.
+use judge_entering::lanes;
 use judge_finish::finish_of;
 use judge_ring::Ring;
 use judge_ring::no_ring;
@@ -68,7 +69,8 @@ fn judge_orders<'a>(
     if !verdict.out {
         let at = verdict.at;
         let left = verdict.left;
-        let ring = ring_of(sheet, count, list, &at, &left, verdict.stuck);
+        let lanes = lanes(sheet);
+        let ring = ring_of(sheet, &lanes, count, list, &at, &left, verdict.stuck);
         return not_judged(refused(22, 0), ring);
     }
     if words.len() < 128 {

@@ -18,7 +18,7 @@ use Rattle.routes.specs.Crossing.{Crossing, steps, zone}
 use Rattle.routes.specs.Moves.{system}
 use Rattle.routes.proofs.Moves.{out-steps}
 use Rattle.sheet_table.specs.inner.Parts as parts
-use Rattle.crossing.specs.inner.Tables.{LeftSet, crossingOf}
+use Rattle.crossing.specs.inner.Tables.{LeftSet, frontsOf, crossingOf}
 use Rattle.crossing.proofs.Tables.{carts-16}
 use Rattle.judge_one_move.specs.inner.Running.{Joins}
 use Rattle.judge_one_move.proofs.Left.{left-same, left-joined}
@@ -57,25 +57,15 @@ module _ (sheet ahead : List ℕ) where
     here = in-range X at left on
 
     pub in-table : c < length at
-    in-table = omega (arith, here .sized, carts-16 (parts.steps sheet) (parts.zone sheet) ahead)
+    in-table = omega (arith, here .sized, carts-16 (parts.steps sheet) (parts.zone sheet) (frontsOf sheet) ahead)
 
     -- whether it may enter the zone that it wants
-    module _ (wants : p < steps X c) where
-      below : p < count c
-      below = omega (arith, counted sheet ahead at left (on .standing) c l)
+    module _ (r : Bool) (says : (r ≡ true) ↔ Permitted S at c) where
+      pub stands-free : p < steps X c → r ≡ true → CanGoOn X at left c
+      stands-free wants entry = record { have-moved = on; cart-16 = l; wants = wants; may = says .0 entry }
 
-      pub stands-asked : OnTable (8 * c + p)
-      stands-asked = x-few sheet ahead at left (on .standing) c l below (8 * c + p) refl
-
-      module _ (r : Bool) (says : (r ≡ true) ↔ Within (getD ahead (8 * c + p) 0) (getD left (getD (parts.zone sheet) (8 * c + p) 0) 0)) where
-        stands-may : (r ≡ true) ↔ Permitted S at c
-        stands-may = enter-says sheet ahead at left (on .standing) c l below (8 * c + p) refl r says
-
-        pub stands-free : r ≡ true → CanGoOn X at left c
-        stands-free entry = record { have-moved = on; cart-16 = l; wants = wants; may = stands-may .0 entry }
-
-        pub stands-held : r ≡ false → ¬ (Permitted S at c)
-        stands-held no-entry m = true≢false (sym (stands-may .1 m) ∙ no-entry)
+      pub stands-held : r ≡ false → ¬ (Permitted S at c)
+      stands-held no-entry m = true≢false (sym (says .1 m) ∙ no-entry)
 
     -- the zone that it is in, by its step at x
     zone-asked : 0 < p → p ≤ count c → (x : ℕ) → x ≡ 8 * c + p - 1 → OnTable x
@@ -197,22 +187,26 @@ module _ (sheet ahead : List ℕ) where
 
     -- into the zone that it wants
     module _ (below : p < count c) where
-      wants-at : pos at c < steps X c
-      wants-at = omega (arith, stands, counted sheet ahead at left (on .have-moved .standing) c (on .cart-16))
+      below-at : pos at c < count c
+      below-at = omega (arith, stands)
+
+      x-at : 8 * c + p ≡ 8 * c + pos at c
+      x-at = omega (arith, stands)
 
       pub x-asked : OnTable (8 * c + p)
-      x-asked = rw stands at (stands-asked at left (on .have-moved) c (on .cart-16) wants-at)
+      x-asked = x-few sheet ahead at left (on .have-moved .standing) c (on .cart-16) below-at (8 * c + p) x-at
 
       module _ (r : Bool) (says : (r ≡ true) ↔ Within (getD ahead (8 * c + p) 0) (getD left (getD (parts.zone sheet) (8 * c + p) 0) 0)) where
-        says-at : (r ≡ true) ↔ Within (getD ahead (8 * c + pos at c) 0) (getD left (getD (parts.zone sheet) (8 * c + pos at c) 0) 0)
-        says-at = rw stands says
+        may-move : (r ≡ true) ↔ Permitted S at c
+        may-move =
+            enter-says sheet ahead at left (on .have-moved .standing) c (on .cart-16) below-at (8 * c + p) x-at (omega (arith, stands, on .some)) r says
 
         -- which may not be entered
         pub gone-held : r ≡ false → GoneOn X old at left c
         gone-held no-entry = record {
           have-moved = on .have-moved;
           further = on .further;
-          held-or-out = stands-held at left (on .have-moved) c (on .cart-16) wants-at r says-at no-entry;
+          held-or-out = stands-held at left (on .have-moved) c (on .cart-16) r may-move no-entry;
         }
 
         -- or may
@@ -221,12 +215,9 @@ module _ (sheet ahead : List ℕ) where
           cart-16 = on .cart-16;
           some = omega arith;
           not-past = omega arith;
-          have-moved = moved-have may-enter more joined (p + 1) refl;
-          further = moved-further may-enter more joined (p + 1) refl;
+          have-moved = moved-have (may-move .0 entry) more joined (p + 1) refl;
+          further = moved-further (may-move .0 entry) more joined (p + 1) refl;
         }
-          where
-            may-enter : Permitted S at c
-            may-enter = stands-free at left (on .have-moved) c (on .cart-16) wants-at r says-at entry .may
 
     -- out of the last
     module _ (past : count c ≤ p) where

@@ -66,8 +66,8 @@ module _ (X : Crossing) where
       member : has inside c ≡ true
       member = on .not-out c (low .member)
 
-      pub turning-wants : pos at c < steps X c
-      turning-wants = on .inside-is .wants c member
+      pub turning-wants : (k : ℕ) → steps X c ≡ k → pos at c < k
+      turning-wants k counted = omega (arith, counted, on .inside-is .wants c member)
 
       remain : (d : ℕ) → ¬ (d ≡ c) → has rest d ≡ has turn d
       remain = without-other turn c rest (without .others c low)
@@ -121,7 +121,8 @@ module _ (X : Crossing) where
             -- out of its last zone it would have gone
             wants-more : pos (set at c to) c < steps X c
             wants-more =
-                held-wants X (set at c to) c (gone .have-moved .standing .only) (omega (arith, turning-wants)) (omega (arith, counted, stands l))
+                held-wants X (set at c to) c (gone .have-moved .standing .only) (omega (arith, on .inside-is .wants c member))
+                (omega (arith, counted, stands l))
                 (gone .held-or-out)
 
     -- the turn is over

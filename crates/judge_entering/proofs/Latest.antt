@@ -77,7 +77,7 @@ part-of true false time near far is-near is-far = omega (arith, is-far refl)
 part-of false mine time near far is-near is-far = refl
 
 -- the latest over the carts of the same lane, by the follow gap, and then over the others, by the cross gap
-module _ (sheet same leave : List ℕ) (x c : ℕ) (enterable : Enterable sheet same leave x c) where
+module _ (sheet : List ℕ) (mates : ℕ) (leave : List ℕ) (x c : ℕ) (enterable : Enterable sheet mates leave x c) where
   abbrev z : ℕ
   z = getD (zone sheet) x 0
 
@@ -87,14 +87,14 @@ module _ (sheet same leave : List ℕ) (x c : ℕ) (enterable : Enterable sheet 
   abbrev far : ℕ → ℕ
   far = clearBy leave z (getD (cross sheet) z 0)
 
-  gap-is : (d : ℕ) → d < 16 → (b : Bool) → has (getD same c 0) d ≡ b
+  gap-is : (d : ℕ) → d < 16 → (b : Bool) → has mates d ≡ b
       → clearOf sheet leave z c d ≡ clearBy leave z (pick b (getD (follow sheet) z 0) (getD (cross sheet) z 0)) d
   unfolding givenBy
   gap-is d l b e =
       ap (λ (t : Bool). clearBy leave z (pick t (getD (follow sheet) z 0) (getD (cross sheet) z 0)) d)
-      (sym (in-own (lane sheet) c d (enterable .cart-16) l) ∙ rw (enterable .same-is) at e)
+      (sym (in-own sheet c d l) ∙ rw (enterable .mates-are) at e)
 
-  parts-latest : (members others mine ready clear time : ℕ) → Less members (getD same c 0) others → Less members others mine
+  parts-latest : (members others mine ready clear time : ℕ) → Less members mates others → Less members others mine
       → clear ≡ latest near mine ready → time ≡ latest far others clear → time ≡ latest (clearOf sheet leave z c) members ready
   unfolding latest
   parts-latest members others mine ready clear time are-others are-mine clear-is time-is =
@@ -107,11 +107,11 @@ module _ (sheet same leave : List ℕ) (x c : ℕ) (enterable : Enterable sheet 
       parted : (d : ℕ) → d < 16 → of (clearOf sheet leave z c) members d ≡ max (of near mine d) (of far others d)
       parted d l =
           rw (are-mine d, are-others d)
-          (part-of (has members d) (has (getD same c 0) d) (clearOf sheet leave z c d) (near d) (far d) (gap-is d l true) (gap-is d l false))
+          (part-of (has members d) (has mates d) (clearOf sheet leave z c d) (near d) (far d) (gap-is d l true) (gap-is d l false))
 
   -- with the zone and the gaps as they are read
   pub latest-parts : (y f k members others mine ready clear time : ℕ) → y ≡ z → f ≡ getD (follow sheet) y 0 → k ≡ getD (cross sheet) y 0
-      → Less members (getD same c 0) others → Less members others mine → clear ≡ latest (clearBy leave y f) mine ready
+      → Less members mates others → Less members others mine → clear ≡ latest (clearBy leave y f) mine ready
       → time ≡ latest (clearBy leave y k) others clear → time ≡ latest (clearOf sheet leave z c) members ready
   latest-parts y f k members others mine ready clear time y-is f-is k-is are-others are-mine clear-is time-is =
       parts-latest members others mine ready clear time are-others are-mine (rw (f-is, y-is) at clear-is) (rw (k-is, y-is) at time-is)

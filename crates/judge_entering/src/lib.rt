@@ -2,43 +2,87 @@
 use sets::carts;
 use sheet_table::Table;
 ghost use mathlib.Core.Path.{_≡_};
-ghost use Prim.Native.Nat.{_≤_, _<_, max};
+ghost use mathlib.Core.Logic.{_↔_};
+ghost use mathlib.Core.Bool.{true};
+ghost use mathlib.Core.List.{List};
+ghost use Prim.Native.Nat.{ℕ, _≤_, _<_, max};
 ghost use lib.ListN.{getD, set};
-ghost use Rattle.words.specs.Lists.{entries};
 ghost use Rattle.words.specs.Limits.{mostTime};
 ghost use Rattle.words.specs.inner.Limits.{latestLeaving};
+ghost use Rattle.routes.specs.Lanes.{laneHolds};
 ghost use Rattle.sheet_table.specs.inner.Parts.{lane, zone};
-ghost use Rattle.judge_entering.specs.inner.Lanes.{onLane, lanesOf};
+ghost use Rattle.crossing.specs.inner.Tables.{crossingOf, FrontGone};
+ghost use Rattle.judge_entering.specs.inner.Lanes.{lanesOf, matesOf, frontAt, frontTime};
 ghost use Rattle.judge_entering.specs.inner.Times.{clearBy, clearOf, latest, AtMost, Enterable};
 
-// For each lane the set of the carts on it.
-fn on_lanes(sheet: &Table) -> [u16; 16]
+// For each lane the set of the carts on it; then, from 16 on, for each cart one more than the cart next in front of it, 0 where there is none.
+pub type Lanes = [u16; 32];
+
+// The lanes of a sheet, in one pass over its carts.
+pub fn lanes(sheet: &Table) -> Lanes
     requires { ⌜ AtMost 15 (lane (now sheet)) ⌝ }
-    ensures { λ r. ⌜ r ≡ entries 16 0 (onLane (lane (now (sheet .entry))) 16) ⌝ }
+    ensures { λ r. ⌜ r ≡ lanesOf (now (sheet .entry)) ⌝ }
 {
-    let mut on = [0u16; 16];
+    let mut lanes = [0u16; 32];
+    let mut latest = [0u16; 16];
     let mut c = 0;
     while c < 16 {
         let l = sheet_table::lane(sheet, c);
-        on[l] = carts::with(on[l], c);
+        lanes[l] = carts::with(lanes[l], c);
+        // An absent cart is on no lane.
+        if 0 < sheet_table::steps(sheet, c) {
+            lanes[16 + c] = latest[l];
+            latest[l] = c as u16 + 1;
+        }
         c += 1;
     }
-    on
+    lanes
 }
 
-// For each cart the set of the carts on its lane.
-pub fn lanes(sheet: &Table) -> [u16; 16]
-    requires { ⌜ AtMost 15 (lane (now sheet)) ⌝ }
-    ensures { λ r. ⌜ r ≡ lanesOf (lane (now (sheet .entry))) ⌝ }
+// The set of the carts on cart c's lane.
+pub fn mates(sheet: &Table, lanes: &Lanes, c: usize) -> u16
+    requires { ⌜ (c < 16) × AtMost 15 (lane (now sheet)) × (now lanes ≡ lanesOf (now sheet)) ⌝ }
+    ensures { λ r. ⌜ r ≡ matesOf (now (sheet .entry)) c ⌝ }
 {
-    let on = on_lanes(sheet);
-    let mut same = [0u16; 16];
-    let mut c = 0;
-    while c < 16 {
-        same[c] = on[sheet_table::lane(sheet, c)];
-        c += 1;
+    lanes[sheet_table::lane(sheet, c)]
+}
+
+fn number(value: u16) -> usize
+    ensures { λ r. ⌜ r ≡ value ⌝ }
+{
+    value as usize
+}
+
+// One more than the cart next in front of cart c on its lane; 0 where there is none.
+pub fn front(lanes: &Lanes, c: usize) -> usize
+    requires { ⌜ c < 16 ⌝ }
+    ensures { λ r. ⌜ r ≡ frontAt (now (lanes .entry)) c ⌝ }
+{
+    number(lanes[16 + c])
+}
+
+// Whether whoever is next in front of cart c on its lane has made its first move.
+pub fn front_gone(lanes: &Lanes, at: &[u8; 16], c: usize) -> bool
+    requires { ⌜ (c < 16) × (frontAt (now lanes) c ≤ 16) ⌝ }
+    ensures { λ r. ⌜ (r ≡ true) ↔ FrontGone (frontAt (now (lanes .entry)) c) (now (at .entry)) ⌝ }
+{
+    let f = front(lanes, c);
+    if f == 0 {
+        return true;
     }
-    same
+    0 < at[f - 1]
+}
+
+// Whether the lane holds cart c, whatever the orders in the zones: neither it nor the cart in front of it has made its first move.
+pub fn lane_holds(lanes: &Lanes, at: &[u8; 16], c: usize) -> bool
+    requires { ⌜ (c < 16) × (frontAt (now lanes) c ≤ 16) ⌝ }
+    ensures { λ r.
+        ⌜ ((sheet ahead : List ℕ) → now (lanes .entry) ≡ lanesOf sheet → r ≡ laneHolds (crossingOf sheet ahead) (now (at .entry)) c) ⌝ }
+{
+    if 0 < at[c] {
+        return false;
+    }
+    !front_gone(lanes, at, c)
 }
 
 // The later of two times.
@@ -46,6 +90,18 @@ pub fn later(a: u32, b: u32) -> u32
     ensures { λ r. ⌜ r ≡ max a b ⌝ }
 {
     if a < b { b } else { a }
+}
+
+// The first entering time of the cart next in front of cart c; 0 where there is none.
+pub fn front_enters(lanes: &Lanes, enter: &[u32; 128], c: usize) -> u32
+    requires { ⌜ (c < 16) × (frontAt (now lanes) c ≤ 16) ⌝ }
+    ensures { λ r. ⌜ r ≡ frontTime (frontAt (now (lanes .entry)) c) (now (enter .entry)) ⌝ }
+{
+    let f = front(lanes, c);
+    if f == 0 {
+        return 0;
+    }
+    enter[8 * (f - 1)]
 }
 
 // The latest of a time and the times at which the gap is over behind each cart of a set, all of which have left zone z.
@@ -64,24 +120,24 @@ fn latest_clear(leave: &[u32; 384], z: usize, gap: u32, members: u16, ready: u32
 }
 
 // Cart c enters the zone of its step at x as soon as it is ready and clear of every cart ahead; answers the time.
-// `same` has for each cart the set of the carts on its lane.
+// `mates` are the carts on its lane.
 pub fn enter_zone(
     sheet: &Table,
     ahead: &[u16; 128],
-    same: &[u16; 16],
+    mates: u16,
     leave: &[u32; 384],
     enter: &mut [u32; 128],
     x: usize,
     c: usize,
     ready: u32,
 ) -> u32
-    requires { ⌜ Enterable (now sheet) (now same) (now leave) x c ⌝ }
+    requires { ⌜ Enterable (now sheet) mates (now leave) x c ⌝ }
     ensures { λ r.
         ⌜ (r ≡ latest (clearOf (now (sheet .entry)) (now (leave .entry)) (getD (zone (now (sheet .entry))) x 0) c)
         (getD (now (ahead .entry)) x 0) ready) × (now (enter .exit) ≡ set (now (enter .entry)) x r) ⌝ }
 {
     let z = sheet_table::zone(sheet, x);
-    let others = carts::less(ahead[x], same[c]);
+    let others = carts::less(ahead[x], mates);
     let follow = sheet_table::follow(sheet, z);
     let clear = latest_clear(leave, z, follow, carts::less(ahead[x], others), ready);
     let time = latest_clear(leave, z, sheet_table::cross(sheet, z), others, clear);

@@ -34,9 +34,9 @@ module _ (X : Crossing) (G : Given) (t : ℕ → ℕ → ℕ) (keeps : KeepsRule
       let further : suc s + n ≡ s + suc n = omega arith in
       omega (arith, leaving-next-most s (omega (arith, e)), leaving-last n (suc s) (omega (arith, e)), ap (leaving X G t c) further)
 
-module _ (stepTable zoneTable aheadTable lane arrival passing travel follow cross enter : List ℕ) where
+module _ (stepTable zoneTable frontTable aheadTable lane arrival passing travel follow cross enter : List ℕ) where
   abbrev X : Crossing
-  X = crossingBy stepTable zoneTable aheadTable
+  X = crossingBy stepTable zoneTable frontTable aheadTable
 
   abbrev G : Given
   G = givenBy lane arrival passing travel follow cross
@@ -45,7 +45,7 @@ module _ (stepTable zoneTable aheadTable lane arrival passing travel follow cros
     last-leaving-is : (c : ℕ) → c < 16 → 0 < steps X c → lastLeaving stepTable passing enter c ≡ leaving X G (timesOf enter) c (steps X c - 1)
     unfolding givenBy
     last-leaving-is c l h =
-        let k = steps-is stepTable zoneTable aheadTable c l in
+        let k = steps-is stepTable zoneTable frontTable aheadTable c l in
         let last = last-is X G (timesOf enter) keeps c (steps X c - 1) (omega (arith, h)) in
         rw (ne-eqb (getD stepTable c 0) 0 (λ e. omega (arith, k, e)))
         (ap (λ (n : ℕ). getD enter (8 * c + (n - 1)) 0 + getD passing (8 * c + (n - 1)) 0) (sym k) ∙ sym last)
@@ -56,7 +56,7 @@ module _ (stepTable zoneTable aheadTable lane arrival passing travel follow cros
         late : finish X G (timesOf enter) ≤ largest (lastLeaving stepTable passing enter) 16
         late =
             finish-most X G (timesOf enter) _ λ c s h.
-            let l : c < 16 = step-below stepTable zoneTable aheadTable c s h in
+            let l : c < 16 = step-below stepTable zoneTable frontTable aheadTable c s h in
             let place : s + (steps X c - 1 - s) ≡ steps X c - 1 = omega (arith, h) in
             omega (
               arith,
@@ -71,7 +71,7 @@ module _ (stepTable zoneTable aheadTable lane arrival passing travel follow cros
         one c l (yes h) = omega (arith, last-leaving-is c l h, leaving-finish X G (timesOf enter) c (steps X c - 1) (omega (arith, h)))
         one c l (no m) =
             let none : lastLeaving stepTable passing enter c ≡ 0 = rw (eq-eqb (getD stepTable c 0) 0
-            (omega (arith, m, steps-is stepTable zoneTable aheadTable c l))) in
+            (omega (arith, m, steps-is stepTable zoneTable frontTable aheadTable c l))) in
             omega (arith, none)
 
         early : largest (lastLeaving stepTable passing enter) 16 ≤ finish X G (timesOf enter)

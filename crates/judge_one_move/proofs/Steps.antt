@@ -1,7 +1,7 @@
 -- The moves over tables: whether a zone may be entered, and the three kinds of moves in the shape in which the code makes them.
 use Prim.Native.Nat.{ℕ, suc, _+_, _*_, _-_, _≤_, _<_, max}
 use mathlib.Core.Path.{_≡_, refl, sym, ap, _∙_}
-use mathlib.Core.Logic.{_↔_, Iff·trans, Iff·symm}
+use mathlib.Core.Logic.{_↔_, Iff·symm}
 use mathlib.Core.Bool.{Bool, true, false, false≢true}
 use mathlib.Core.List.{List}
 use native.Mathlib.Omega.{arith}
@@ -14,20 +14,23 @@ use Rattle.sets.specs.inner.Member.{has, Within}
 use Rattle.moves.specs.System.{System, pos}
 use Rattle.moves.specs.Moves.{moved, Permitted}
 use Rattle.routes.specs.Crossing.{Crossing, steps, zone}
+use Rattle.routes.specs.Lanes.{laneHolds}
 use Rattle.routes.specs.Moves.{system}
 use Rattle.routes.proofs.Moves.{permitted-by-rule}
 use Rattle.times.specs.Times.{Given, gap, ready, clear, entering}
 use Rattle.times.proofs.Largest.{largest-same}
 use Rattle.sheet_table.specs.inner.Parts as parts
-use Rattle.crossing.specs.inner.Tables.{crossingOf, givenOf}
+use Rattle.crossing.specs.inner.Tables.{frontsOf, crossingOf, givenOf}
 use Rattle.crossing.specs.Plans.{givenBy}
 use Rattle.crossing.proofs.Tables.{routes-16, steps-is, zone-is, before-is}
-use Rattle.crossing.proofs.Permitted.{permitted-within, into-permitted, out-permitted}
-use Rattle.judge_entering.specs.inner.Lanes.{lanesOf}
+use Rattle.crossing.proofs.Permitted.{permitted-within, into-permitted, started-free, out-permitted}
+use Rattle.judge_entering.specs.inner.Lanes.{matesOf, lanesOf, frontAt, frontTime}
 use Rattle.judge_entering.specs.Times.{timesOf}
 use Rattle.judge_entering.specs.inner.Times.{clearOf, latest, Enterable}
+use Rattle.judge_entering.proofs.LaneLaws.{front-entry}
 use Rattle.judge_one_move.specs.inner.Standing.{Standing}
-use Rattle.judge_one_move.specs.inner.Running.{ZoneLeft, CanGoOn, GoneOn, CanGoOut, Running}
+use Rattle.judge_one_move.specs.inner.Running.{ZoneLeft, GoneIn, CanGoOn, GoneOn, CanGoOut, Running}
+use Rattle.judge_one_move.proofs.Fronts.{front-enters}
 use Rattle.judge_one_move.proofs.Moving.{running-first, running-next, running-out}
 
 module _ (sheet ahead at left : List ℕ) (standing : Standing (crossingOf sheet ahead) at left) (c : ℕ) (l : c < 16) where
@@ -45,7 +48,7 @@ module _ (sheet ahead at left : List ℕ) (standing : Standing (crossingOf sheet
   k = getD (parts.steps sheet) c 0
 
   pub counted : steps X c ≡ k
-  counted = steps-is (parts.steps sheet) (parts.zone sheet) ahead c l
+  counted = steps-is (parts.steps sheet) (parts.zone sheet) (frontsOf sheet) ahead c l
 
   pub steps-8 : k ≤ 8
   steps-8 = omega (arith, counted, standing .steps-most c)
@@ -55,7 +58,7 @@ module _ (sheet ahead at left : List ℕ) (standing : Standing (crossingOf sheet
     inside = omega (arith, counted)
 
     pub zone-at : zone X c j ≡ getD (parts.zone sheet) (8 * c + j) 0
-    zone-at = zone-is (parts.steps sheet) (parts.zone sheet) ahead c l j inside
+    zone-at = zone-is (parts.steps sheet) (parts.zone sheet) (frontsOf sheet) ahead c l j inside
 
     pub zone-few : getD (parts.zone sheet) (8 * c + j) 0 < 24
     zone-few = omega (arith, zone-at, standing .zone-below c j inside)
@@ -66,20 +69,36 @@ module _ (sheet ahead at left : List ℕ) (standing : Standing (crossingOf sheet
     pub x-few : (x < 128) × (getD (parts.zone sheet) x 0 < 24)
     x-few = (omega (arith, steps-8), rw x-is (zone-few p below))
 
-    pub enter-says : (r : Bool) → (r ≡ true) ↔ Within (getD ahead x 0) (getD left (getD (parts.zone sheet) x 0) 0) → (r ≡ true) ↔ Permitted S at c
-    enter-says r says =
-        Iff·trans (rw x-is at says)
-        (Iff·symm (into-permitted (parts.steps sheet) (parts.zone sheet) ahead (standing .once) (standing .only) at c l _ (inside p below)
-        (rw (zone-at p below) (standing .left-is (getD (parts.zone sheet) (8 * c + p) 0)))))
+    -- the step's zone has been left by all carts ahead
+    abbrev Open : Type 0
+    Open = Within (getD ahead x 0) (getD left (getD (parts.zone sheet) x 0) 0)
+
+    into-says : Permitted S at c ↔ (Open × (laneHolds X at c ≡ false))
+    into-says = rw x-is
+        (into-permitted (parts.steps sheet) (parts.zone sheet) (frontsOf sheet) ahead (standing .once) (standing .only) at c l _ (inside p below)
+        (rw (zone-at p below) (standing .left-is (getD (parts.zone sheet) (8 * c + p) 0))))
+
+    -- where the lane does not hold the cart, the zone decides
+    pub free-says : laneHolds X at c ≡ false → (r : Bool) → (r ≡ true) ↔ Open → (r ≡ true) ↔ Permitted S at c
+    free-says free r says = (λ e. into-says .1 (says .0 e, free), λ m. says .1 (into-says .0 m .0))
+
+    -- once it has started, it does not
+    pub enter-says : 0 < p → (r : Bool) → (r ≡ true) ↔ Open → (r ≡ true) ↔ Permitted S at c
+    enter-says started =
+        free-says (started-free (parts.steps sheet) (parts.zone sheet) (frontsOf sheet) ahead (standing .once) (standing .only) at c l started)
+
+    pub held-says : laneHolds X at c ≡ true → (false ≡ true) ↔ Permitted S at c
+    held-says held = (λ e. absurd (false≢true e), λ m. absurd (false≢true (sym (into-says .0 m .1) ∙ held)))
 
   -- the move out
   pub out-may : 0 < k → p ≡ k → Permitted S at c
   out-may some last =
-      out-permitted (parts.steps sheet) (parts.zone sheet) ahead (standing .once) (standing .only) at c l (omega (arith, counted)) (last ∙ sym counted)
+      out-permitted (parts.steps sheet) (parts.zone sheet) (frontsOf sheet) ahead (standing .once) (standing .only) at c l (omega (arith, counted))
+      (last ∙ sym counted)
 
   within : Permitted S at c → (0 < k) × (p ≤ k)
   within m =
-      let w = permitted-within (parts.steps sheet) (parts.zone sheet) ahead (standing .once) (standing .only) at c l m in
+      let w = permitted-within (parts.steps sheet) (parts.zone sheet) (frontsOf sheet) ahead (standing .once) (standing .only) at c l m in
       (omega (arith, counted, w), omega (arith, counted, w))
 
   -- an absent cart has no move, and past its last step a cart has one where it has not gone out
@@ -104,13 +123,13 @@ module _ (sheet ahead at left : List ℕ) (standing : Standing (crossingOf sheet
 
     -- into a zone, by its step at x
     module _ (below : p < k) (x : ℕ) (x-is : x ≡ 8 * c + p) where
-      pub x-enterable : (same : List ℕ) → same ≡ lanesOf (parts.lane sheet) → Enterable sheet same leave x c
+      pub x-enterable : (mates : ℕ) → mates ≡ matesOf sheet c → Enterable sheet mates leave x c
       unfolding givenBy
-      x-enterable same same-is = record {
+      x-enterable mates mates-are = record {
         step-128 = x-few below x x-is .0;
         cart-16 = l;
         zone-24 = x-few below x x-is .1;
-        same-is = same-is;
+        mates-are = mates-are;
         follow-most = run .sound .ranged .follow-most;
         cross-most = run .sound .ranged .cross-most;
         leave-most = run .leave-most;
@@ -118,12 +137,12 @@ module _ (sheet ahead at left : List ℕ) (standing : Standing (crossingOf sheet
 
       module _ (m : Permitted S at c) where
         -- the latest over the set ahead is the entering time
-        latest-here : (own : ℕ) → own ≡ ready G (timesOf enter) c p
+        latest-here : (own : ℕ) → own ≡ ready X G (timesOf enter) c p
             → latest (clearOf sheet leave (zone X c p) c) (getD ahead (8 * c + p) 0) own ≡ entering X G (timesOf enter) c p
         unfolding latest entering givenBy
         latest-here own own-is =
-            rw (own-is, routes-16 (parts.steps sheet) (parts.zone sheet) ahead)
-            (ap (λ (t : ℕ). max (ready G (timesOf enter) c p) t) (largest-same _ _ 16 (λ d _. each d)))
+            rw (own-is, routes-16 (parts.steps sheet) (parts.zone sheet) (frontsOf sheet) ahead)
+            (ap (λ (t : ℕ). max (ready X G (timesOf enter) c p) t) (largest-same _ _ 16 (λ d _. each d)))
           where
             behind : (d : ℕ) (b : Bool) → X .before (zone X c p) d c ≡ b
                 → pick b (clearOf sheet leave (zone X c p) c d) 0 ≡ pick b (clear X G (timesOf enter) c p d) 0
@@ -136,22 +155,27 @@ module _ (sheet ahead at left : List ℕ) (standing : Standing (crossingOf sheet
                 ≡ pick (X .before (zone X c p) d c) (clear X G (timesOf enter) c p d) 0
             each d =
                 ap (λ (b : Bool). pick b (clearOf sheet leave (zone X c p) c d) 0)
-                (sym (before-is (parts.steps sheet) (parts.zone sheet) ahead c l (run .sound .once) p d (zone X c p) (inside p below) refl))
+                (sym (before-is (parts.steps sheet) (parts.zone sheet) (frontsOf sheet) ahead c l (run .sound .once) p d (zone X c p) (inside p below) refl))
                 ∙ behind d (X .before (zone X c p) d c) refl
 
-        latest-entering : (own time : ℕ) → own ≡ ready G (timesOf enter) c p
+        latest-entering : (own time : ℕ) → own ≡ ready X G (timesOf enter) c p
             → time ≡ latest (clearOf sheet leave (getD (parts.zone sheet) x 0) c) (getD ahead x 0) own → time ≡ entering X G (timesOf enter) c p
         latest-entering own time own-is time-is = rw (x-is, ← zone-at p below) at time-is ∙ latest-here own own-is
 
         -- from the lane into the first
-        pub first-moved : p ≡ 0 → (time : ℕ) (entered : List ℕ)
-            → time ≡ latest (clearOf sheet leave (getD (parts.zone sheet) x 0) c) (getD ahead x 0) (getD (parts.arrival sheet) c 0)
-            → entered ≡ set enter x time → Running X G (moved at c) left leave entered
+        pub first-moved : p ≡ 0 → (lanes entered : List ℕ) → lanes ≡ lanesOf sheet → GoneIn sheet lanes ahead leave enter entered c
+            → Running X G (moved at c) left leave entered
         unfolding givenBy
-        first-moved at-start time entered time-is entered-is =
-            rw entered-is
-            (running-first X G at left leave enter run c m x time (omega (arith, inside p below)) at-start (omega arith)
-            (latest-entering (getD (parts.arrival sheet) c 0) time (ap (ready G (timesOf enter) c) (sym at-start)) time-is))
+        first-moved at-start lanes entered lanes-are gone =
+            rw (gone .entered-is)
+            (running-first X G at left leave enter run c m (8 * c) (gone .time) (omega (arith, inside p below)) at-start refl
+            (latest-entering _ (gone .time) (own-first ∙ ap (ready X G (timesOf enter) c) (sym at-start)) (rw first at (gone .time-is))))
+          where
+            first : 8 * c ≡ x
+            first = omega arith
+
+            own-first : max (getD (parts.arrival sheet) c 0) (frontTime (frontAt lanes c) enter) ≡ ready X G (timesOf enter) c 0
+            own-first = ap (max (getD (parts.arrival sheet) c 0)) (rw (lanes-are, front-entry sheet c l) (front-enters sheet ahead enter c))
 
         -- from a zone into the next
         module _ (under-way : 0 < p) where
@@ -165,9 +189,9 @@ module _ (sheet ahead at left : List ℕ) (standing : Standing (crossingOf sheet
           step : suc j ≡ p
           step = omega arith
 
-          pub can-go-on : (same : List ℕ) → same ≡ lanesOf (parts.lane sheet) → CanGoOn sheet same left leave enter c x
-          can-go-on same same-is = record {
-            enterable = x-enterable same same-is;
+          pub can-go-on : (mates : ℕ) → mates ≡ matesOf sheet c → CanGoOn sheet mates left leave enter c x
+          can-go-on mates mates-are = record {
+            enterable = x-enterable mates mates-are;
             not-first = omega arith;
             zone-24 = rw w-is (zone-few j (omega arith));
             left-24 = run .left-24;
@@ -184,7 +208,7 @@ module _ (sheet ahead at left : List ℕ) (standing : Standing (crossingOf sheet
               rw (gone .entered-is)
               (running-next X G at left leave enter run c m x (gone .time) j (getD (parts.zone sheet) (8 * c + j) 0) more after step (inside p below)
               (zone-at j (omega arith)) x-is
-              (latest-entering _ (gone .time) (rw w-is (ap (ready G (timesOf enter) c) step)) (gone .time-is)) (rw w-is at (gone .zone-left)))
+              (latest-entering _ (gone .time) (rw w-is (ap (ready X G (timesOf enter) c) step)) (gone .time-is)) (rw w-is at (gone .zone-left)))
 
     -- out of the last zone, by its step at x
     module _ (some : 0 < k) (last : p ≡ k) (x : ℕ) (x-is : x ≡ 8 * c + (k - 1)) where

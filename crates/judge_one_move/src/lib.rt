@@ -1,20 +1,27 @@
 // One permitted move over tables, in parts: whether a zone may be entered, on into it, and out; what each makes of sets and times.
+use judge_entering::Lanes;
 use judge_entering::enter_zone;
+use judge_entering::front_enters;
+use judge_entering::lane_holds;
+use judge_entering::later;
 use sets::carts;
 use sheet_table::Table;
 use sheet_table::wide;
 ghost use mathlib.Core.Path.{_≡_};
 ghost use mathlib.Core.Logic.{_↔_};
 ghost use mathlib.Core.Bool.{true};
-ghost use Prim.Native.Nat.{_<_, _+_};
+ghost use Prim.Native.Nat.{_≤_, _<_, _+_, _*_};
 ghost use lib.ListN.{length, getD};
 ghost use Rattle.sets.specs.inner.Member.{Within};
+ghost use Rattle.moves.specs.System.{pos};
 ghost use Rattle.moves.specs.Moves.{Permitted};
 ghost use Rattle.routes.specs.Moves.{system};
-ghost use Rattle.sheet_table.specs.inner.Parts.{zone, passing};
+ghost use Rattle.sheet_table.specs.inner.Parts.{steps, zone, passing};
 ghost use Rattle.crossing.specs.inner.Tables.{crossingOf};
+ghost use Rattle.judge_entering.specs.inner.Lanes.{lanesOf, frontAt};
+ghost use Rattle.judge_entering.specs.inner.Times.{Enterable};
 ghost use Rattle.judge_one_move.specs.inner.Standing.{Standing};
-ghost use Rattle.judge_one_move.specs.inner.Running.{Joins, ZoneLeft, CanGoOn, GoneOn, CanGoOut};
+ghost use Rattle.judge_one_move.specs.inner.Running.{Joins, ZoneLeft, GoneIn, CanGoOn, GoneOn, CanGoOut};
 
 // Cart c joins the set of the carts that have left zone z.
 pub fn join(left: &mut [u16; 24], z: usize, c: usize)
@@ -42,21 +49,41 @@ pub fn may_enter(sheet: &Table, ahead: &[u16; 128], left: &[u16; 24], x: usize) 
     carts::within(ahead[x], left[z])
 }
 
-// Whether the next move of cart c is permitted: into a zone that all carts ahead have left, or out.
-pub fn may_move(
+// Whether cart c may enter the zone that it wants: its lane does not hold it, and all carts ahead have left the zone.
+pub fn may_go_in(
     sheet: &Table,
+    lanes: &Lanes,
     ahead: &[u16; 128],
     at: &[u8; 16],
     left: &[u16; 24],
     c: usize,
 ) -> bool
-    requires { ⌜ Standing (crossingOf (now sheet) (now ahead)) (now at) (now left) × (c < 16) ⌝ }
+    requires { ⌜ Standing (crossingOf (now sheet) (now ahead)) (now at) (now left) × (c < 16) × (now lanes ≡ lanesOf (now sheet))
+        × (pos (now at) c < getD (steps (now sheet)) c 0) ⌝ }
+    ensures { λ r. ⌜ (r ≡ true) ↔ Permitted (system (crossingOf (now (sheet .entry)) (now (ahead .entry)))) (now (at .entry)) c ⌝ }
+{
+    if lane_holds(lanes, at, c) {
+        return false;
+    }
+    may_enter(sheet, ahead, left, 8 * c + wide(at[c]))
+}
+
+// Whether the next move of cart c is permitted: into the zone that it wants, or out.
+pub fn may_move(
+    sheet: &Table,
+    lanes: &Lanes,
+    ahead: &[u16; 128],
+    at: &[u8; 16],
+    left: &[u16; 24],
+    c: usize,
+) -> bool
+    requires { ⌜ Standing (crossingOf (now sheet) (now ahead)) (now at) (now left) × (c < 16) × (now lanes ≡ lanesOf (now sheet)) ⌝ }
     ensures { λ r. ⌜ (r ≡ true) ↔ Permitted (system (crossingOf (now (sheet .entry)) (now (ahead .entry)))) (now (at .entry)) c ⌝ }
 {
     let k = sheet_table::steps(sheet, c);
     let p = wide(at[c]);
     if p < k {
-        return may_enter(sheet, ahead, left, 8 * c + p);
+        return may_go_in(sheet, lanes, ahead, at, left, c);
     }
     if k == 0 {
         return false;
@@ -64,18 +91,37 @@ pub fn may_move(
     p == k
 }
 
+// Cart c goes from its lane into the zone of its first step, no earlier than the cart in front; no zone is left.
+pub fn move_in(
+    sheet: &Table,
+    lanes: &Lanes,
+    ahead: &[u16; 128],
+    mates: u16,
+    leave: &[u32; 384],
+    enter: &mut [u32; 128],
+    c: usize,
+)
+    requires { ⌜ Enterable (now sheet) mates (now leave) (8 * c) c × (frontAt (now lanes) c ≤ 16) ⌝ }
+    ensures { λ r. ⌜ GoneIn (now (sheet .entry)) (now (lanes .entry)) (now (ahead .entry)) (now (leave .entry)) (now (enter .entry))
+        (now (enter .exit)) c ⌝ }
+{
+    let line = front_enters(lanes, enter, c);
+    let ready = later(sheet_table::arrival(sheet, c), line);
+    enter_zone(sheet, ahead, mates, leave, enter, 8 * c, c, ready);
+}
+
 // Cart c goes from the zone of its step at x - 1 into that of its step at x.
 pub fn move_on(
     sheet: &Table,
     ahead: &[u16; 128],
-    same: &[u16; 16],
+    mates: u16,
     left: &mut [u16; 24],
     leave: &mut [u32; 384],
     enter: &mut [u32; 128],
     c: usize,
     x: usize,
 )
-    requires { ⌜ CanGoOn (now sheet) (now same) (now left) (now leave) (now enter) c x ⌝ }
+    requires { ⌜ CanGoOn (now sheet) mates (now left) (now leave) (now enter) c x ⌝ }
     ensures { λ r.
         ⌜ GoneOn (now (sheet .entry)) (now (ahead .entry)) (now (left .entry)) (now (leave .entry)) (now (enter .entry)) (now (left .exit))
         (now (leave .exit)) (now (enter .exit)) c x ⌝ }
@@ -83,7 +129,7 @@ pub fn move_on(
     let w = x - 1;
     let travel = sheet_table::travel(sheet, w);
     let ready = enter[w] + sheet_table::passing(sheet, w) + travel;
-    let time = enter_zone(sheet, ahead, same, leave, enter, x, c, ready);
+    let time = enter_zone(sheet, ahead, mates, leave, enter, x, c, ready);
     leave_zone(left, leave, sheet_table::zone(sheet, w), c, time - travel);
 }
 

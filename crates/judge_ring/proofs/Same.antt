@@ -10,7 +10,7 @@ use Rattle.words.specs.Lists.{entries}
 use Rattle.words.proofs.Entries.{at-entry}
 use Rattle.moves.specs.Rings.{follow, leastFrom, between, ringFirst, ringRest}
 use Rattle.judge_ring.specs.Ring.{ringFrom, ringBy, sixteen}
-use Rattle.judge_ring.specs.inner.Tables.{wantedIn, firstNotLeft, pointIn, ByTable, byTable}
+use Rattle.judge_ring.specs.inner.Tables.{ByTable, byTable}
 
 abbrev unless : Bool → ℕ → List ℕ → List ℕ
 unless b d list = elim b [ true ↦ [] | false ↦ d ∷ list ]
@@ -66,11 +66,10 @@ module _ (to other wanted wants : ℕ → ℕ) (n : ℕ) (same : (c : ℕ) → c
       λ i. record { length = length (e i); cart = sixteen (e i); zone = sixteen (f i) }
 
 -- the ring by the tables that the routine fills
-pub ring-tables : (steps zone count list at left wanted to : List ℕ) (c : ℕ) → wanted ≡ entries 16 0 (wantedIn steps zone at)
-    → to ≡ entries 16 0 (λ d. firstNotLeft count list left (getD wanted d 0)) → ByTable to → c < 16
-    → ringBy (byTable to) (byTable wanted) 16 c ≡ ringBy (pointIn steps zone count list at left) (wantedIn steps zone at) 16 c
-ring-tables steps zone count list at left wanted to c w t below h =
-    let wants : (d : ℕ) → d < 16 → byTable wanted d ≡ wantedIn steps zone at d = λ d l. ap (λ (table : List ℕ). getD table d 0) w ∙ at-entry 16 _ d l in
-    ring-same (byTable to) _ (byTable wanted) _ 16
-    (λ d l. ap (λ (table : List ℕ). getD table d 0) t ∙ at-entry 16 _ d l ∙ ap (firstNotLeft count list left) (wants d l))
-    (λ d _. below d) wants c h
+pub ring-tables : (point want : ℕ → ℕ) (to wanted : List ℕ) (c : ℕ) → to ≡ entries 16 0 point → wanted ≡ entries 16 0 want → ByTable to → c < 16
+    → ringBy (byTable to) (byTable wanted) 16 c ≡ ringBy point want 16 c
+ring-tables point want to wanted c t w below h =
+    ring-same (byTable to) point (byTable wanted) want 16 (filled point to t) (λ d _. below d) (filled want wanted w) c h
+  where
+    filled : (rule : ℕ → ℕ) (table : List ℕ) → table ≡ entries 16 0 rule → (d : ℕ) → d < 16 → byTable table d ≡ rule d
+    filled rule table e d l = ap (λ (list : List ℕ). getD list d 0) e ∙ at-entry 16 rule d l

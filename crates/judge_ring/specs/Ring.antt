@@ -39,7 +39,7 @@ abbrev pub ringBy : (ℕ → ℕ) → (ℕ → ℕ) → ℕ → ℕ → Ring
 ringBy to wanted n c = record { length = length (ringFrom to n c); cart = sixteen (ringFrom to n c); zone = sixteen (map wanted (ringFrom to n c)) }
 
 -- the ring that is come to from cart c where a plan's carts stand at s
-abbrev pub ringOf : List (List ℕ) → List (List ℕ) → List ℕ → ℕ → Ring
-ringOf routes lists s c =
-    let X = plan routes lists in
-    ringBy (pointsTo routes lists s) (λ d. zone X d (pos s d)) (carts (system X)) c
+abbrev pub ringOf : (ℕ → ℕ) → List (List ℕ) → List (List ℕ) → List ℕ → ℕ → Ring
+ringOf front routes lists s c =
+    let X = plan front routes lists in
+    ringBy (pointsTo front routes lists s) (λ d. zone X d (pos s d)) (carts (system X)) c

@@ -1,4 +1,7 @@
 // The ring of a locked plan: who points to whom, followed from the lowest cart that is stuck.
+use judge_entering::Lanes;
+use judge_entering::front;
+use judge_entering::lane_holds;
 use sets::carts;
 use sheet_table::Table;
 use sheet_table::wide;
@@ -11,8 +14,8 @@ ghost use Rattle.moves.specs.Rings.{follow, leastFrom};
 ghost use Rattle.judge_ring.specs.Ring.{noRing, ringBy};
 ghost use Rattle.words.specs.Lists.{entries};
 ghost use Rattle.sheet_table.specs.inner.Parts.{steps, zone};
-ghost use Rattle.judge_ring.specs.inner.Tables.{NotOutIn, StuckIn, wantedIn, Wanting, pointIn, firstNotLeft};
-ghost use Rattle.judge_ring.specs.inner.Tables.{Listable, AllListable, InZones, ByTable, byTable};
+ghost use Rattle.judge_ring.specs.inner.Tables.{NotOutIn, StuckIn, wantedIn, Wanting, pointOf, firstNotLeft};
+ghost use Rattle.judge_ring.specs.inner.Tables.{Listable, Pointable, ByTable, byTable};
 
 // The carts that wait for each other in a circle, begun at the lowest, each with the zone that it wants. Unused entries are 0.
 #[repr(C)]
@@ -106,22 +109,43 @@ fn wanted_zones(sheet: &Table, at: &[u8; 16]) -> [u8; 16]
     wanted
 }
 
-// The cart that each cart points to: the first in the wanted zone's list which has not left it.
-fn pointing<'a>(
+// The cart that cart c points to: the one in front where the lane holds it, else the first in the wanted zone's list which has not left it.
+fn points_to<'a>(
+    sheet: &Table,
+    lanes: &Lanes,
     count: &'a [u8; 24],
     list: &'a [u8; 384],
+    at: &[u8; 16],
     left: &[u16; 24],
-    wanted: &[u8; 16],
+    c: usize,
+) -> usize
+    requires { ⌜ Pointable (now sheet) (now lanes) (now count) (now list) (now at) × (c < 16) ⌝ }
+    ensures { λ r. ⌜ (r ≡ pointOf (now (sheet .entry)) (now (count .entry)) (now (list .entry)) (now (at .entry)) (now (left .entry)) c) × (r < 16) ⌝ }
+{
+    if lane_holds(lanes, at, c) {
+        return front(lanes, c) - 1;
+    }
+    first_not_left(count, list, left, wanted_zone(sheet, at, c))
+}
+
+// The cart that each cart points to.
+fn pointing<'a>(
+    sheet: &Table,
+    lanes: &Lanes,
+    count: &'a [u8; 24],
+    list: &'a [u8; 384],
+    at: &[u8; 16],
+    left: &[u16; 24],
 ) -> [u8; 16]
-    requires { ⌜ AllListable (now count) (now list) × InZones (now wanted) ⌝ }
+    requires { ⌜ Pointable (now sheet) (now lanes) (now count) (now list) (now at) ⌝ }
     ensures { λ r.
-        ⌜ (r ≡ entries 16 0 (λ c. firstNotLeft (now (count .entry)) (now (list .entry)) (now (left .entry))
-        (getD (now (wanted .entry)) c 0))) × ByTable r ⌝ }
+        ⌜ (r ≡ entries 16 0 (pointOf (now (sheet .entry)) (now (count .entry)) (now (list .entry)) (now (at .entry)) (now (left .entry))))
+        × ByTable r ⌝ }
 {
     let mut to = [0u8; 16];
     let mut c = 0;
     while c < 16 {
-        to[c] = first_not_left(count, list, left, wanted[c] as usize) as u8;
+        to[c] = points_to(sheet, lanes, count, list, at, left, c) as u8;
         c += 1;
     }
     to
@@ -155,19 +179,20 @@ fn ring_by(to: &[u8; 16], wanted: &[u8; 16], c: usize) -> Ring
 // The ring that pointing comes to from cart c, where the carts stand and have left zones as the tables say.
 pub fn ring_of<'a>(
     sheet: &Table,
+    lanes: &Lanes,
     count: &'a [u8; 24],
     list: &'a [u8; 384],
     at: &[u8; 16],
     left: &[u16; 24],
     c: usize,
 ) -> Ring
-    requires { ⌜ Wanting (steps (now sheet)) (zone (now sheet)) (now at) × AllListable (now count) (now list) × (c < 16) ⌝ }
+    requires { ⌜ Pointable (now sheet) (now lanes) (now count) (now list) (now at) × (c < 16) ⌝ }
     ensures { λ r.
-        ⌜ r ≡ ringBy (pointIn (steps (now (sheet .entry))) (zone (now (sheet .entry))) (now (count .entry)) (now (list .entry))
-        (now (at .entry)) (now (left .entry))) (wantedIn (steps (now (sheet .entry))) (zone (now (sheet .entry))) (now (at .entry))) 16 c ⌝ }
+        ⌜ r ≡ ringBy (pointOf (now (sheet .entry)) (now (count .entry)) (now (list .entry)) (now (at .entry)) (now (left .entry)))
+        (wantedIn (steps (now (sheet .entry))) (zone (now (sheet .entry))) (now (at .entry))) 16 c ⌝ }
 {
     let wanted = wanted_zones(sheet, at);
-    let to = pointing(count, list, left, &wanted);
+    let to = pointing(sheet, lanes, count, list, at, left);
     ring_by(&to, &wanted, c)
 }
 

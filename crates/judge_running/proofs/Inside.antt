@@ -38,9 +38,9 @@ module _ (stepTable : List ℕ) where
   unfolding presentSet
   present-as-before c set none is = is ∙ sym (set-as-before c _ (le-ltb 0 (getD stepTable c 0) none))
 
-  module _ (zoneTable aheadTable : List ℕ) where
+  module _ (zoneTable frontTable aheadTable : List ℕ) where
     abbrev X : Crossing
-    X = crossingBy stepTable zoneTable aheadTable
+    X = crossingBy stepTable zoneTable frontTable aheadTable
 
     -- are those that are not out at the start
     pub present-inside : InsideSet X (replicate 16 0) (presentSet stepTable 16)
@@ -50,8 +50,8 @@ module _ (stepTable : List ℕ) where
         λ e. omega (arith, zeros-pos 16 c, out-steps X c 0 (some c e)),
         λ h.
             let has-steps : 0 < steps X c = moves-within (steps X c) _ (rw (out-are X c) at h) .0 in
-            let l : c < 16 = step-below stepTable zoneTable aheadTable c 0 has-steps in
-            has-set 16 _ c l ∙ lt-ltb 0 (getD stepTable c 0) (omega (arith, steps-is stepTable zoneTable aheadTable c l)),
+            let l : c < 16 = step-below stepTable zoneTable frontTable aheadTable c 0 has-steps in
+            has-set 16 _ c l ∙ lt-ltb 0 (getD stepTable c 0) (omega (arith, steps-is stepTable zoneTable frontTable aheadTable c l)),
       );
       wants = λ c e. omega (arith, zeros-pos 16 c, some c e);
     }
@@ -60,7 +60,7 @@ module _ (stepTable : List ℕ) where
         some c e =
             let l : c < 16 = has-below 16 _ c (set-fits 16 _) e in
             let counted : 0 < getD stepTable c 0 = ltb-true 0 _ (sym (has-set 16 _ c l) ∙ e) in
-            omega (arith, steps-is stepTable zoneTable aheadTable c l)
+            omega (arith, steps-is stepTable zoneTable frontTable aheadTable c l)
 
 -- ---- cart c has moved on, and no other has
 
@@ -108,7 +108,11 @@ held-wants X at c only some within held = elim (decLt (pos at c) (steps X c)) [ 
     may-out : ¬ (pos at c < steps X c) → Permitted (system X) at c
     may-out n =
         permitted-by-rule X only at c .1
-        (record { not-out = omega (arith, out-are X c, out-steps X c 0 some); into = λ h. absurd (n h) })
+        (record {
+          not-out = omega (arith, out-are X c, out-steps X c 0 some);
+          into = λ h. absurd (n h);
+          line = λ first. absurd (omega (arith, first, some, n));
+        })
 
 -- ---- no cart is left inside
 

@@ -16,12 +16,12 @@ use Rattle.routes.specs.Moves.{system}
 use Rattle.routes.proofs.Moves.{moves-within, out-are, out-steps}
 use Rattle.times.specs.Times.{Given}
 use Rattle.sheet_table.specs.inner.Parts as parts
-use Rattle.crossing.specs.inner.Tables.{crossingOf, givenOf}
+use Rattle.crossing.specs.inner.Tables.{frontsOf, crossingOf, givenOf}
 use Rattle.crossing.proofs.Tables.{carts-16, steps-is}
-use Rattle.judge_entering.specs.inner.Lanes.{lanesOf}
-use Rattle.judge_entering.specs.inner.Times.{clearOf, latest, Enterable}
+use Rattle.judge_entering.specs.inner.Lanes.{matesOf, lanesOf}
+use Rattle.judge_entering.specs.inner.Times.{Enterable}
 use Rattle.judge_one_move.specs.inner.Standing.{Standing}
-use Rattle.judge_one_move.specs.inner.Running.{ZoneLeft, CanGoOn, GoneOn, CanGoOut, Running}
+use Rattle.judge_one_move.specs.inner.Running.{ZoneLeft, GoneIn, CanGoOn, GoneOn, CanGoOut, Running}
 use Rattle.judge_one_move.proofs.Moving.{standing}
 use Rattle.judge_one_move.proofs.Steps.{steps-8, x-few, enter-says, x-enterable, first-moved, can-go-on, next-moved, out-may, can-go-out, out-moved}
 use Rattle.judge_running.specs.inner.Rounds.{Underway, Onward, Advanced}
@@ -54,9 +54,9 @@ module _ (sheet ahead : List ℕ) where
 
   module _ (old left leave enter order : List ℕ) (c made : ℕ) (on : Underway X G old left leave enter order made) (l : c < 16) where
     counted-here : steps X c ≡ getD (parts.steps sheet) c 0
-    counted-here = steps-is (parts.steps sheet) (parts.zone sheet) ahead c l
+    counted-here = steps-is (parts.steps sheet) (parts.zone sheet) (frontsOf sheet) ahead c l
 
-    stood : Standing X old left
+    pub stood : Standing X old left
     stood = standing X G old left leave enter (on .running)
 
     pub steps-few : getD (parts.steps sheet) c 0 ≤ 8
@@ -69,19 +69,9 @@ module _ (sheet ahead : List ℕ) where
     onward-none : Onward X G old old left leave enter order c made made
     onward-none = record { underway = on; no-fewer = le-refl made; none-made = λ _. refl; others = λ _ _. refl }
 
-    -- whether it may make its first move, into a zone
-    module _ (below : pos old c < getD (parts.steps sheet) c 0) where
-      pub stands-asked : (8 * c + pos old c < 128) × (getD (parts.zone sheet) (8 * c + pos old c) 0 < 24)
-      stands-asked =
-          x-few sheet ahead old left stood c l below (8 * c + pos old c) refl
-
-      module _ (r : Bool) (says : (r ≡ true) ↔ Within (getD ahead (8 * c + pos old c) 0) (getD left (getD (parts.zone sheet) (8 * c + pos old c) 0) 0)) where
-        pub stands-may : (r ≡ true) ↔ Permitted S old c
-        stands-may =
-            enter-says sheet ahead old left stood c l below (8 * c + pos old c) refl r says
-
-        pub stands-held : r ≡ false → Advanced X G old old left leave enter order c made made
-        stands-held no-entry = record { onward = onward-none; held-or-out = λ m. true≢false (sym (stands-may .1 m) ∙ no-entry) }
+    -- it may not move into the zone that it wants
+    pub stands-held : (r : Bool) → (r ≡ true) ↔ Permitted S old c → r ≡ false → Advanced X G old old left leave enter order c made made
+    stands-held r says no-entry = record { onward = onward-none; held-or-out = λ m. true≢false (sym (says .1 m) ∙ no-entry) }
 
     pub advancing-start : NotOut S old c → Advancing old left leave enter order c made made (pos old c)
     advancing-start inside = record {
@@ -114,14 +104,14 @@ module _ (sheet ahead : List ℕ) where
           on .cart-16,
           length-set old c p,
           here X G at left leave enter order made (on .onward .underway) .sized,
-          carts-16 (parts.steps sheet) (parts.zone sheet) ahead,
+          carts-16 (parts.steps sheet) (parts.zone sheet) (frontsOf sheet) ahead,
         )
 
     stands : pos at c ≡ p
     stands = getD-set-same old c p 0 inside-old
 
     counted-at : steps X c ≡ k
-    counted-at = steps-is (parts.steps sheet) (parts.zone sheet) ahead c (on .cart-16)
+    counted-at = steps-is (parts.steps sheet) (parts.zone sheet) (frontsOf sheet) ahead c (on .cart-16)
 
     moved-at : (q : ℕ) → q ≡ p + 1 → moved at c ≡ set old c q
     moved-at q is = set-set old c p (suc (pos at c)) ∙ ap (set old c) (omega (arith, stands))
@@ -151,10 +141,10 @@ module _ (sheet ahead : List ℕ) where
       pub x-asked : (x < 128) × (getD (parts.zone sheet) x 0 < 24)
       x-asked = x-few sheet ahead at left stood-at c (on .cart-16) below-at x x-at
 
-      module _ (r : Bool) (says : (r ≡ true) ↔ Within (getD ahead x 0) (getD left (getD (parts.zone sheet) x 0) 0)) where
+      module _ (started : 0 < p) (r : Bool) (says : (r ≡ true) ↔ Within (getD ahead x 0) (getD left (getD (parts.zone sheet) x 0) 0)) where
         pub may-move : (r ≡ true) ↔ Permitted S at c
         may-move =
-            enter-says sheet ahead at left stood-at c (on .cart-16) below-at x x-at r says
+            enter-says sheet ahead at left stood-at c (on .cart-16) below-at x x-at (omega (arith, stands)) r says
 
         -- which may not be entered
         pub advancing-held : r ≡ false → Advanced X G old at left leave enter order c before made
@@ -172,17 +162,15 @@ module _ (sheet ahead : List ℕ) where
         }
 
         -- the first
-        advancing-into : p ≡ 0 → (time : ℕ) (entered : List ℕ)
-            → time ≡ latest (clearOf sheet leave (getD (parts.zone sheet) x 0) c) (getD ahead x 0) (getD (parts.arrival sheet) c 0)
-            → entered ≡ set enter x time → Advancing old left leave entered (set order made c) c before (made + 1) (p + 1)
-        advancing-into at-start time entered time-is entered-is =
+        advancing-into : p ≡ 0 → (lanes entered : List ℕ) → lanes ≡ lanesOf sheet → GoneIn sheet lanes ahead leave enter entered c
+            → Advancing old left leave entered (set order made c) c before (made + 1) (p + 1)
+        advancing-into at-start lanes entered lanes-are gone =
             advancing-turn left leave entered
-            (first-moved sheet ahead at left stood-at c (on .cart-16) leave enter run below-at x x-at
-            m (stands ∙ at-start) time entered time-is entered-is)
+            (first-moved sheet ahead at left stood-at c (on .cart-16) leave enter run below-at x x-at m (stands ∙ at-start) lanes entered lanes-are gone)
 
         -- the next
         module _ (under-way : 0 < p) where
-          pub next-asked : (same : List ℕ) → same ≡ lanesOf (parts.lane sheet) → CanGoOn sheet same left leave enter c x
+          pub next-asked : (same : ℕ) → same ≡ matesOf sheet c → CanGoOn sheet same left leave enter c x
           next-asked =
               can-go-on sheet ahead at left stood-at c (on .cart-16) leave enter run below-at x x-at
               m (omega (arith, stands))
@@ -248,13 +236,12 @@ module _ (sheet ahead : List ℕ) where
     pub first-room : made < 144
     first-room = underway-room X G old left leave enter order made on c m
 
-    pub first-enterable : (same : List ℕ) → same ≡ lanesOf (parts.lane sheet) → Enterable sheet same leave (8 * c) c
+    pub first-enterable : (same : ℕ) → same ≡ matesOf sheet c → Enterable sheet same leave (8 * c) c
     first-enterable =
         x-enterable sheet ahead old left (standing X G old left leave enter (on .running)) c l leave enter (on .running) below (8 * c) first-at
 
-    pub advancing-first : (time : ℕ) (entered : List ℕ)
-        → time ≡ latest (clearOf sheet leave (getD (parts.zone sheet) (8 * c) 0) c) (getD ahead (8 * c) 0) (getD (parts.arrival sheet) c 0)
-        → entered ≡ set enter (8 * c) time → Advancing old left leave entered (set order made c) c made (made + 1) 1
-    advancing-first time entered time-is entered-is =
+    pub advancing-first : (lanes entered : List ℕ) → lanes ≡ lanesOf sheet → GoneIn sheet lanes ahead leave enter entered c
+        → Advancing old left leave entered (set order made c) c made (made + 1) 1
+    advancing-first lanes entered lanes-are gone =
         rw at-start at
-        (advancing-into old left leave enter order c made made (pos old c) first below (8 * c) first-at may-first at-start time entered time-is entered-is)
+        (advancing-into old left leave enter order c made made (pos old c) first below (8 * c) first-at may-first at-start lanes entered lanes-are gone)

@@ -1,7 +1,10 @@
 // Permitted moves made until none is left, with the entering times on the way: verdict and times, from one routine.
-use judge_entering::enter_zone;
+use judge_entering::Lanes;
 use judge_entering::lanes;
+use judge_entering::mates;
 use judge_one_move::may_enter;
+use judge_one_move::may_go_in;
+use judge_one_move::move_in;
 use judge_one_move::move_on;
 use judge_one_move::move_out;
 use sets::carts;
@@ -11,7 +14,7 @@ ghost use Prim.Native.Nat.{_<_};
 ghost use lib.ListN.{length, replicate};
 ghost use Rattle.moves.specs.Moves.{Permitted};
 ghost use Rattle.routes.specs.Moves.{system};
-ghost use Rattle.sheet_table.specs.inner.Parts.{lane, steps};
+ghost use Rattle.sheet_table.specs.inner.Parts.{steps};
 ghost use Rattle.crossing.specs.inner.Tables.{crossingOf, givenOf};
 ghost use Rattle.crossing.specs.inner.Sound.{Sound};
 ghost use Rattle.judge_entering.specs.inner.Lanes.{lanesOf};
@@ -19,11 +22,10 @@ ghost use Rattle.judge_running.specs.inner.Rounds.{presentSet, InsideSet
 ghost use Rattle.judge_running.specs.inner.Settled.{SettlesAs};
 
 // Cart c, which may move, moves on as far as it may, and is stored in the table for each of its moves; answers how many moves are made in all.
-// `same` has for each cart the set of the carts on its lane.
 fn advance(
     sheet: &Table,
+    lanes: &Lanes,
     ahead: &[u16; 128],
-    same: &[u16; 16],
     at: &mut [u8; 16],
     left: &mut [u16; 24],
     leave: &mut [u32; 384],
@@ -33,20 +35,19 @@ fn advance(
     before: usize,
 ) -> usize
     requires { ⌜ Underway (crossingOf (now sheet) (now ahead)) (givenOf (now sheet)) (now at) (now left) (now leave) (now enter) (now order)
-        before × (c < 16) × Permitted (system (crossingOf (now sheet) (now ahead))) (now at) c × (now same ≡ lanesOf (lane (now sheet))) ⌝ }
+        before × (c < 16) × Permitted (system (crossingOf (now sheet) (now ahead))) (now at) c × (now lanes ≡ lanesOf (now sheet)) ⌝ }
     ensures { λ r.
         ⌜ Advanced (crossingOf (now (sheet .entry)) (now (ahead .entry))) (givenOf (now (sheet .entry))) (now (at .entry)) (now (at .exit))
         (now (left .exit)) (now (leave .exit)) (now (enter .exit)) (now (order .exit)) c before r ⌝ }
 {
     let k = sheet_table::steps(sheet, c);
+    let same = mates(sheet, lanes, c);
     let mut p = at[c] as usize;
     let mut made = before;
-    // From the lane no zone is left.
     if p == 0 {
         order[made] = c as u8;
         made += 1;
-        let arrival = sheet_table::arrival(sheet, c);
-        enter_zone(sheet, ahead, same, leave, enter, 8 * c, c, arrival);
+        move_in(sheet, lanes, ahead, same, leave, enter, c);
         p = 1;
     }
     while p < k {
@@ -90,8 +91,8 @@ struct Turn {
 // Every cart that is not out moves on in turn as far as it may.
 fn sweep(
     sheet: &Table,
+    lanes: &Lanes,
     ahead: &[u16; 128],
-    same: &[u16; 16],
     at: &mut [u8; 16],
     left: &mut [u16; 24],
     leave: &mut [u32; 384],
@@ -101,7 +102,7 @@ fn sweep(
     before: usize,
 ) -> Turn
     requires { ⌜ Underway (crossingOf (now sheet) (now ahead)) (givenOf (now sheet)) (now at) (now left) (now leave) (now enter) (now order)
-        before × InsideSet (crossingOf (now sheet) (now ahead)) (now at) inside × (now same ≡ lanesOf (lane (now sheet))) ⌝ }
+        before × InsideSet (crossingOf (now sheet) (now ahead)) (now at) inside × (now lanes ≡ lanesOf (now sheet)) ⌝ }
     ensures { λ r.
         ⌜ Swept (crossingOf (now (sheet .entry)) (now (ahead .entry))) (givenOf (now (sheet .entry))) (now (at .exit)) (now (left .exit))
         (now (leave .exit)) (now (enter .exit)) (now (order .exit)) before (r .made) (r .going) ⌝ }
@@ -113,8 +114,8 @@ fn sweep(
         let c = carts::lowest(turn);
         turn = carts::rest(turn);
         // A cart that is not out wants a zone: out of its last one it has gone at once.
-        if may_enter(sheet, ahead, left, 8 * c + at[c] as usize) {
-            made = advance(sheet, ahead, same, at, left, leave, enter, order, c, made);
+        if may_go_in(sheet, lanes, ahead, at, left, c) {
+            made = advance(sheet, lanes, ahead, at, left, leave, enter, order, c, made);
             if sheet_table::steps(sheet, c) < at[c] as usize {
                 still = carts::without(still, c);
             }
@@ -145,7 +146,7 @@ pub fn settle(
         ⌜ SettlesAs (crossingOf (now (sheet .entry)) (now (ahead .entry))) (givenOf (now (sheet .entry))) (r .at) (r .left)
         (now (enter .exit)) (now (order .exit)) (r .made) ⌝ }
 {
-    let same = lanes(sheet);
+    let lanes = lanes(sheet);
     let mut at = [0u8; 16];
     let mut left = [0u16; 24];
     let mut leave = [0u32; 384];
@@ -154,8 +155,8 @@ pub fn settle(
     while 0 < going {
         let turn = sweep(
             sheet,
+            &lanes,
             ahead,
-            &same,
             &mut at,
             &mut left,
             &mut leave,

@@ -24,19 +24,19 @@ use Rattle.judge_ring.specs.inner.Tables.{StuckIn}
 use Rattle.judge_ring.proofs.Lowest.{lowest-found}
 use Rattle.judge_verdict.specs.inner.Verdict.{Runs}
 
-module _ (steps zone ahead : List ℕ) (G : Given) (at left enter order : List ℕ) (made : ℕ)
-    (settled : SettlesAs (crossingBy steps zone ahead) G at left enter order made) (r : ℕ) (stuck : StuckIn steps at r) where
+module _ (steps zone front ahead : List ℕ) (G : Given) (at left enter order : List ℕ) (made : ℕ)
+    (settled : SettlesAs (crossingBy steps zone front ahead) G at left enter order made) (r : ℕ) (stuck : StuckIn steps at r) where
   abbrev S : System
-  S = system (crossingBy steps zone ahead)
+  S = system (crossingBy steps zone front ahead)
 
   sixteen : carts S ≡ 16
-  sixteen = carts-16 steps zone ahead
+  sixteen = carts-16 steps zone front ahead
 
   in-range : InRange S at
   in-range = rw (settled .at-end) (reaches-in-range S (start S) _ (start-in-range S) (end-reached S (start S)))
 
   out-at : (c : ℕ) → c < 16 → pos (S .out) c ≡ movesOf (getD steps c 0)
-  out-at c l = out-are (crossingBy steps zone ahead) c ∙ ap movesOf (steps-is steps zone ahead c l)
+  out-at c l = out-are (crossingBy steps zone front ahead) c ∙ ap movesOf (steps-is steps zone front ahead c l)
 
   none-stuck : 16 ≤ r → at ≡ S .out
   none-stuck n =
@@ -61,7 +61,7 @@ module _ (steps zone ahead : List ℕ) (G : Given) (at left enter order : List �
   unfolding lowestStuck
   lowest = lowest-found (isNotOut S at) (carts S) r (omega (arith, sixteen, stuck .most)) is-out-at not-out
 
-  pub runs : Runs (crossingBy steps zone ahead) G enter order (record { out = leb 16 r; stuck = r; at = at; left = left; made = made })
+  pub runs : Runs (crossingBy steps zone front ahead) G enter order (record { out = leb 16 r; stuck = r; at = at; left = left; made = made })
   runs = record {
     settled = settled;
     out = (λ e. none-stuck (leb-true 16 r e), λ e. le-leb 16 r (one-stuck e));

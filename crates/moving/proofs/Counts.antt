@@ -13,7 +13,7 @@ use Rattle.routes.proofs.Counts.{out-sum, present-are}
 use Rattle.sheet.specs.Valid.{Valid}
 use Rattle.sheet.specs.declared.Sheet.{Sheet}
 use Rattle.plan.specs.declared.Orders.{Orders}
-use Rattle.crossing.specs.inner.Tables.{crossingBy}
+use Rattle.crossing.specs.inner.Tables.{sheetFronts, crossingBy}
 use Rattle.crossing.specs.Plans.{planCrossing}
 use Rattle.crossing.proofs.Tables.{routes-16, steps-is}
 use Rattle.judge.specs.Judging.{planSystem}
@@ -24,11 +24,11 @@ module _ (sheet : Sheet) (orders : Orders) (v : Valid sheet) where
 
   sixteen : length (P .routes) ≡ 16
   unfolding crossingBy
-  sixteen = routes-16 (sheet .steps) (sheet .zone) (orders .ahead)
+  sixteen = routes-16 (sheet .steps) (sheet .zone) (sheetFronts sheet) (orders .ahead)
 
   steps-are : (c : ℕ) → c < 16 → steps P c ≡ getD (sheet .steps) c 0
   unfolding crossingBy
-  steps-are = steps-is (sheet .steps) (sheet .zone) (orders .ahead)
+  steps-are = steps-is (sheet .steps) (sheet .zone) (sheetFronts sheet) (orders .ahead)
 
   counts-are : map length (P .routes) ≡ sheet .steps
   counts-are =

@@ -1,4 +1,5 @@
--- The ones of the set of carts ahead and not gone are as many as the carts ahead in the list that have not left.
+-- The ones of the set of carts ahead and not gone are as many as the carts ahead in the list that have not left;
+-- and the lane holds a cart over the sheet's table of fronts as it does in the plan.
 use Prim.Native.Nat.{ℕ, _+_, _*_, _≤_, _<_}
 use mathlib.Core.Path.{_≡_, refl, sym, ap, _∙_}
 use mathlib.Core.Logic.{_↔_}
@@ -11,13 +12,14 @@ use lib.Dec.{ltb}
 use borrow.Author.Tests.{lt-ltb, le-ltb}
 use Rattle.words.proofs.Entries.{getD-entries}
 use Rattle.sets.specs.inner.Member.{has}
-use Rattle.sets.specs.Counting.{countBelow}
+use Rattle.sets.specs.Counting.{bit, countBelow}
 use Rattle.sets.proofs.Counting.{count-same}
 use Rattle.moves.specs.System.{pos}
 use Rattle.routes.specs.Lists.{isAhead}
 use Rattle.routes.specs.inner.Lists.{Named}
 use Rattle.routes.specs.Crossing.{Crossing, steps, zone, leftAt}
 use Rattle.routes.specs.inner.Crossing.{Visits}
+use Rattle.routes.specs.Lanes.{laneHolds}
 use Rattle.routes.specs.Plans.{listOf}
 use Rattle.routes.specs.inner.Plans.{Complete}
 use Rattle.routes.proofs.Ahead.{ahead-named}
@@ -29,11 +31,11 @@ use Rattle.plan.specs.Valid.{passingList, ValidOrders}
 use Rattle.plan.specs.declared.Orders.{Orders}
 use Rattle.plan.proofs.Visitors.{step-valid}
 use Rattle.plan.proofs.Lists.{ahead-list}
-use Rattle.crossing.specs.inner.Tables.{crossingBy, sheetCrossing, LeftSet}
-use Rattle.crossing.specs.Plans.{routesOf, listsOf}
+use Rattle.crossing.specs.inner.Tables.{crossingBy, sheetFronts, sheetCrossing, LeftSet}
+use Rattle.crossing.specs.Plans.{routesOf, listsOf, planCrossing}
 use Rattle.crossing.proofs.Tables.{steps-is, zone-is, step-below}
-use Rattle.crossing.proofs.Plans.{plan-complete}
-use Rattle.moving_asking.specs.Ahead.{aheadOf}
+use Rattle.crossing.proofs.Plans.{plan-complete, plan-fronts}
+use Rattle.moving_asking.specs.Ahead.{countAhead, aheadOf}
 use Rattle.moving_asking.proofs.Counted.{count-ahead}
 
 module _ (sheet : Sheet) (v : Valid sheet) (orders : Orders) (w : ValidOrders sheet orders) (at : List ℕ) (c : ℕ) (l : c < 16)
@@ -56,8 +58,11 @@ module _ (sheet : Sheet) (v : Valid sheet) (orders : Orders) (w : ValidOrders sh
       getD-entries (sheet .zones) 0 (passingList orders) wanted [] (step-valid sheet v c p h .zone-below)
       ∙ ap (passingList orders) (omega arith)
 
+  inside : p < steps X c
+  inside = omega (arith, steps-is (sheet .steps) (sheet .zone) (sheetFronts sheet) (orders .ahead) c l)
+
   here : zone X c p ≡ wanted
-  here = zone-is (sheet .steps) (sheet .zone) (orders .ahead) c l p (omega (arith, steps-is (sheet .steps) (sheet .zone) (orders .ahead) c l))
+  here = zone-is (sheet .steps) (sheet .zone) (sheetFronts sheet) (orders .ahead) c l p inside
 
   complete : Complete (routesOf sheet) (listsOf sheet orders)
   complete = plan-complete sheet v orders w
@@ -85,11 +90,16 @@ module _ (sheet : Sheet) (v : Valid sheet) (orders : Orders) (w : ValidOrders sh
         go true e = not-left d (named-visits d (ahead-named list c d e))
         go false e = refl
 
-    pub ahead-counted : countBelow 16 (λ d. has (getD (orders .ahead) (8 * c + p) 0) d && not (has left d)) ≡ aheadOf (routesOf sheet)
-        (listsOf sheet orders) at c
+    listed-counted : countBelow 16 (λ d. has (getD (orders .ahead) (8 * c + p) 0) d && not (has left d))
+        ≡ countAhead (λ d. ltb (pos at d) (leftAt X d wanted)) list c
+    listed-counted =
+        count-same 16 _ _ (λ d _. ahead-gone d)
+        ∙ sym (count-ahead 16 (λ d. ltb (pos at d) (leftAt X d wanted)) list c (complete .once wanted)
+        (λ d n. let (j, m, _) = named-visits d n in step-below (sheet .steps) (sheet .zone) (sheetFronts sheet) (orders .ahead) d j m))
+
+    pub ahead-counted : countBelow 16 (λ d. has (getD (orders .ahead) (8 * c + p) 0) d && not (has left d)) + bit (laneHolds X at c)
+        ≡ aheadOf (planCrossing sheet orders .front) (routesOf sheet) (listsOf sheet orders) at c
     unfolding aheadOf crossingBy
     ahead-counted =
-        rw here
-        (count-same 16 _ _ (λ d _. ahead-gone d)
-        ∙ sym (count-ahead 16 (λ d. ltb (pos at d) (leftAt X d wanted)) list c (complete .once wanted)
-        (λ d n. let (j, m, _) = named-visits d n in step-below (sheet .steps) (sheet .zone) (orders .ahead) d j m)))
+        rw (here, plan-fronts sheet v orders w c (omega (arith, inside)))
+        (ap (λ (n : ℕ). n + bit (laneHolds (planCrossing sheet orders) at c)) listed-counted)

@@ -14,7 +14,8 @@ use Rattle.moves.proofs.Moves.{permitted-says}
 use Rattle.routes.specs.Crossing.{Crossing, steps, zone}
 use Rattle.routes.specs.Moves.{movesOf, system}
 use Rattle.routes.proofs.Moves.{moves-some}
-use Rattle.crossing.specs.inner.Tables.{sheetCrossing}
+use Rattle.times.specs.Running as running
+use Rattle.crossing.specs.inner.Tables.{sheetFronts, sheetCrossing}
 use Rattle.crossing.specs.Plans.{sheetGiven}
 use Rattle.crossing.specs.inner.Sound.{Sound}
 use Rattle.crossing.proofs.Tables.{steps-is}
@@ -34,11 +35,19 @@ use Rattle.moving_record.specs.declared.Record.{Record}
 use Rattle.moving_record.specs.declared.Tested.{Tested}
 use Rattle.moving_record.proofs.Few.{reached-few}
 use Rattle.judge.specs.Judging.{planSystem, isOut}
-use Rattle.judge.proofs.Verdict.{out-at}
-use Rattle.moving_asking.specs.inner.Tables.{WantsZone, notGone, noMove}
+use Rattle.judge.proofs.Verdict.{out-at, tables-out}
+use Rattle.moving_asking.specs.inner.Tables.{WantsZone, heldBy, noMove}
 use Rattle.moving_asking.specs.Asking.{hasMoved}
 use Rattle.moving_asking.specs.inner.Held.{askOf}
 use Rattle.moving_asking.proofs.Ahead.{ahead-counted}
+
+-- a cart of the sheet, and a place on its route
+module _ (sheet : Sheet) (v : Valid sheet) (cart : ℕ) (present : cart < sheet .carts) where
+  pub cart-few : cart < 16
+  cart-few = omega (arith, v .carts-most)
+
+  pub place-few : (p : ℕ) → p ≤ getD (sheet .steps) cart 0 → p ≤ 8
+  place-few p inside = omega (arith, v .cart cart present .steps-most)
 
 module _ (sheet : Sheet) (orders : Orders) (v : Valid sheet) (w : ValidOrders sheet orders) where
   abbrev X : Crossing
@@ -50,7 +59,7 @@ module _ (sheet : Sheet) (orders : Orders) (v : Valid sheet) (w : ValidOrders sh
   sound : Sound X (sheetGiven sheet)
   sound = plan-sound sheet v orders w
 
-  pub sheet-orderly : Orderly (sheet .steps) (sheet .zone) (orders .ahead)
+  pub sheet-orderly : Orderly (sheet .steps) (sheet .zone) (sheet .lane) (orders .ahead)
   sheet-orderly = record {
     steps-16 = v .shaped .steps-16;
     once = sound .once;
@@ -59,108 +68,118 @@ module _ (sheet : Sheet) (orders : Orders) (v : Valid sheet) (w : ValidOrders sh
     steps-most = sound .ranged .steps-most;
   }
 
-  module _ (lent : Record) (cart : ℕ) where
-    pub locked-is : isOut sheet orders ≡ false → noMove (refused 22 0) 0 ≡ askOf sheet orders lent cart
-    unfolding firstFailing
-    locked-is locked = rw locked
+  module _ (lent : Record) where
+    -- ---- the record
 
-    module _ (out : isOut sheet orders ≡ true) (tested : Tested) (test : TestedAs X lent tested) where
+    module _ (tested : Tested) (test : TestedAs X lent tested) where
       reached-is : tested .reached ≡ isReached S lent
       reached-is = test .reached-is ∙ ap (λ (T : System). isReached T lent) (plan-system sheet v orders w)
 
-      pub unreached-is : tested .reached ≡ false → noMove (refused 23 0) 0 ≡ askOf sheet orders lent cart
-      unfolding firstFailing
-      unreached-is none = rw (out, sym reached-is ∙ none)
+      pub made-few : tested .reached ≡ true → lent .made ≤ 144
+      made-few reached = reached-few (sheet .steps) (sheet .zone) (sheet .lane) (orders .ahead) sheet-orderly lent (sym (test .reached-is) ∙ reached)
 
-      module _ (reached : tested .reached ≡ true) where
-        is-reached : isReached S lent ≡ true
-        is-reached = sym reached-is ∙ reached
+      pub tested-standing : tested .reached ≡ true → Standing X (lent .position) (tested .left)
+      tested-standing reached = record {
+        once = sound .once;
+        only = sound .only;
+        zone-below = sound .zone-below;
+        steps-most = sound .ranged .steps-most;
+        left-is = test .left-is reached;
+      }
 
-        pub made-few : lent .made ≤ 144
-        made-few = reached-few (sheet .steps) (sheet .zone) (orders .ahead) sheet-orderly lent (sym (test .reached-is) ∙ reached)
+    module _ (cart : ℕ) where
+      -- where the cart stands, and how many steps it has
+      abbrev p : ℕ
+      p = getD (lent .position) cart 0
 
-        pub absent-is : sheet .carts ≤ cart → noMove (refused 24 0) 0 ≡ askOf sheet orders lent cart
+      abbrev k : ℕ
+      k = getD (sheet .steps) cart 0
+
+      -- ---- the cart's move
+
+      module _ (may : Bool) (says : (may ≡ true) ↔ Permitted (system X) (lent .position) cart) where
+        permitted-is : isPermitted S (lent .position) cart ≡ may
+        permitted-is = go may refl
+          where
+            same : system X ≡ S
+            same = plan-system sheet v orders w
+
+            go : (b : Bool) → may ≡ b → isPermitted S (lent .position) cart ≡ b
+            go true e = permitted-says S (lent .position) cart .1 (rw same at (says .0 e))
+            go false e = not-eq-not {b = false} .0 (λ t. false≢true (sym e ∙ says .1 (rw same (permitted-says S (lent .position) cart .0 t))))
+
+        module _ (held : may ≡ false) (present : cart < sheet .carts) (inside : p ≤ k) where
+          -- the move out is always permitted, so the cart wants a zone
+          wants : p < k
+          wants = go (decLt p k)
+            where
+              few : cart < 16
+              few = cart-few sheet v cart present
+
+              counted : steps X cart ≡ k
+              counted = steps-is (sheet .steps) (sheet .zone) (sheetFronts sheet) (orders .ahead) cart few
+
+              go : Dec (p < k) → p < k
+              go (yes h) = h
+              go (no n) =
+                  let m = out-permitted (sheet .steps) (sheet .zone) (sheetFronts sheet) (orders .ahead) (sound .once) (sound .only) (lent .position) cart few
+                  (omega (arith, counted, v .cart cart present .steps-least)) (omega (arith, n, inside, counted)) in
+                  absurd (false≢true (sym held ∙ says .1 m))
+
+          pub held-wanting : WantsZone (sheet .zone) (lent .position) cart
+          held-wanting = record {
+            cart = cart-few sheet v cart present;
+            step = omega (arith, wants, v .cart cart present .steps-most);
+            known = omega (arith, step-valid sheet v cart p wants .zone-below, v .zones-most);
+          }
+
+      -- ---- each way out; `run` is whether all carts come out
+
+      module _ (run : Bool) (run-is : run ≡ running.isOut X) where
+        out-is : run ≡ isOut sheet orders
+        out-is = run-is ∙ tables-out sheet orders v w
+
+        pub locked-is : run ≡ false → noMove (refused 22 0) 0 ≡ askOf sheet orders lent cart
         unfolding firstFailing
-        absent-is past = rw (out, is-reached, le-ltb cart (sheet .carts) past)
+        locked-is locked = rw (sym out-is ∙ locked)
 
-        pub tested-standing : Standing X (lent .position) (tested .left)
-        tested-standing = record {
-          once = sound .once;
-          only = sound .only;
-          zone-below = sound .zone-below;
-          steps-most = sound .ranged .steps-most;
-          left-is = test .left-is reached;
-        }
+        module _ (accepted : run ≡ true) (tested : Tested) (test : TestedAs X lent tested) where
+          out : isOut sheet orders ≡ true
+          out = sym out-is ∙ accepted
 
-        module _ (present : cart < sheet .carts) where
-          pub cart-few : cart < 16
-          cart-few = omega (arith, v .carts-most)
-
-          -- where the cart stands, and how many steps it has
-          abbrev p : ℕ
-          p = getD (lent .position) cart 0
-
-          abbrev k : ℕ
-          k = getD (sheet .steps) cart 0
-
-          out-is : pos (S .out) cart ≡ movesOf k
-          out-is = out-at sheet orders cart cart-few
-
-          out-past : movesOf k ≡ k + 1
-          out-past = moves-some k (λ e. omega (arith, v .cart cart present .steps-least, e))
-
-          pub already-is : k < p → noMove (refused 25 0) 0 ≡ askOf sheet orders lent cart
+          pub unreached-is : tested .reached ≡ false → noMove (refused 23 0) 0 ≡ askOf sheet orders lent cart
           unfolding firstFailing
-          already-is past = rw (out, is-reached, lt-ltb cart (sheet .carts) present, le-ltb p (pos (S .out) cart) (omega (arith, out-past, out-is)))
+          unreached-is none = rw (out, sym (reached-is tested test) ∙ none)
 
-          module _ (inside : p ≤ k) where
-            not-out : isNotOut S (lent .position) cart ≡ true
-            not-out = lt-ltb p (pos (S .out) cart) (omega (arith, out-past, out-is))
+          module _ (reached : tested .reached ≡ true) where
+            is-reached : isReached S lent ≡ true
+            is-reached = sym (reached-is tested test) ∙ reached
 
-            pub place-few : p ≤ 8
-            place-few = omega (arith, v .cart cart present .steps-most)
+            pub absent-is : sheet .carts ≤ cart → noMove (refused 24 0) 0 ≡ askOf sheet orders lent cart
+            unfolding firstFailing
+            absent-is past = rw (out, is-reached, le-ltb cart (sheet .carts) past)
 
-            module _ (may : Bool) (says : (may ≡ true) ↔ Permitted (system X) (lent .position) cart) where
-              permitted-is : isPermitted S (lent .position) cart ≡ may
-              permitted-is = go may refl
-                where
-                  same : system X ≡ S
-                  same = plan-system sheet v orders w
+            module _ (present : cart < sheet .carts) where
+              last : pos (S .out) cart ≡ k + 1
+              last = out-at sheet orders cart (cart-few sheet v cart present)
+                  ∙ moves-some k (λ e. omega (arith, v .cart cart present .steps-least, e))
 
-                  go : (b : Bool) → may ≡ b → isPermitted S (lent .position) cart ≡ b
-                  go true e = permitted-says S (lent .position) cart .1 (rw same at (says .0 e))
-                  go false e = not-eq-not {b = false} .0 (λ t. false≢true (sym e ∙ says .1 (rw same (permitted-says S (lent .position) cart .0 t))))
-
-              pub moved-is : may ≡ true → hasMoved lent cart ≡ askOf sheet orders lent cart
+              pub already-is : k < p → noMove (refused 25 0) 0 ≡ askOf sheet orders lent cart
               unfolding firstFailing
-              moved-is e = rw (out, is-reached, lt-ltb cart (sheet .carts) present, not-out, permitted-is ∙ e)
+              already-is past = rw (out, is-reached, lt-ltb cart (sheet .carts) present, le-ltb p (pos (S .out) cart) (omega (arith, last)))
 
-              module _ (held : may ≡ false) where
-                -- the move out is always permitted, so the cart wants a zone
-                wants : p < k
-                wants = go (decLt p k)
-                  where
-                    counted : steps X cart ≡ k
-                    counted = steps-is (sheet .steps) (sheet .zone) (orders .ahead) cart cart-few
+              module _ (inside : p ≤ k) (may : Bool) (says : (may ≡ true) ↔ Permitted (system X) (lent .position) cart) where
+                not-out : isNotOut S (lent .position) cart ≡ true
+                not-out = lt-ltb p (pos (S .out) cart) (omega (arith, last))
 
-                    go : Dec (p < k) → p < k
-                    go (yes h) = h
-                    go (no n) =
-                        let m = out-permitted (sheet .steps) (sheet .zone) (orders .ahead) (sound .once) (sound .only) (lent .position) cart cart-few
-                        (omega (arith, counted, v .cart cart present .steps-least)) (omega (arith, n, inside, counted)) in
-                        absurd (false≢true (sym held ∙ says .1 m))
+                pub moved-is : may ≡ true → hasMoved lent cart ≡ askOf sheet orders lent cart
+                unfolding firstFailing
+                moved-is e = rw (out, is-reached, lt-ltb cart (sheet .carts) present, not-out, permitted-is may says ∙ e)
 
-                pub held-wanting : WantsZone (sheet .zone) (lent .position) cart
-                held-wanting = record {
-                  cart = cart-few;
-                  step = omega (arith, wants, v .cart cart present .steps-most);
-                  known = omega (arith, step-valid sheet v cart p wants .zone-below, v .zones-most);
-                }
-
-                pub held-is : (n : ℕ) → n ≡ notGone (sheet .zone) (orders .ahead) (lent .position) (tested .left) cart
+                pub held-is : may ≡ false → (n : ℕ) → n ≡ heldBy X (sheet .zone) (orders .ahead) (lent .position) (tested .left) cart
                     → noMove (refused 26 0) n ≡ askOf sheet orders lent cart
                 unfolding firstFailing
-                held-is n is =
-                    let counted = is ∙ ahead-counted sheet v orders w (lent .position) cart cart-few wants _
-                    (test .left-is reached (valid.zone sheet cart p)) in
-                    rw (out, is-reached, lt-ltb cart (sheet .carts) present, not-out, permitted-is ∙ held) (ap (noMove (refused 26 0)) counted)
+                held-is held n is =
+                    let counted = is ∙ ahead-counted sheet v orders w (lent .position) cart (cart-few sheet v cart present)
+                    (wants may says held present inside) _ (test .left-is reached (valid.zone sheet cart p)) in
+                    rw (out, is-reached, lt-ltb cart (sheet .carts) present, not-out, permitted-is may says ∙ held) (ap (noMove (refused 26 0)) counted)

@@ -11,7 +11,7 @@ use Rattle.sheet.specs.Reading.{sheetOf}
 use Rattle.sheet.specs.declared.Sheet.{Sheet}
 use Rattle.plan.specs.Reading.{readingChecks}
 use Rattle.plan.specs.declared.Orders.{Orders}
-use Rattle.crossing.specs.Plans.{routesOf, listsOf}
+use Rattle.crossing.specs.Plans.{routesOf, listsOf, planCrossing}
 use Rattle.judge_ring.specs.Ring.{isNotOut}
 use Rattle.moving_record.specs.Record.{isReached}
 use Rattle.moving_record.specs.declared.Record.{Record}
@@ -35,13 +35,15 @@ module _ (sheet : Sheet) (orders : Orders) (lent : Record) (cart : ℕ) where
       ∷ check 26 0 (isPermitted S (lent .position) cart)
       ∷ []
 
-  -- "On refusal every other part of the answer is 0", but "26 also tells how many carts ahead have not left the wanted zone"
+  -- "On refusal every other part of the answer is 0", but "26 also tells how many carts ahead have not left the wanted zone",
+  -- and "adds one if the lane holds the cart"
   abbrev pub notMoved : Outcome → Asked
   notMoved outcome = record {
     outcome = outcome;
     position = 0;
     made = 0;
-    ahead = pick (eqb (outcome .number) 26) (aheadOf (routesOf sheet) (listsOf sheet orders) (lent .position) cart) 0;
+    ahead = pick (eqb (outcome .number) 26)
+        (aheadOf (planCrossing sheet orders .front) (routesOf sheet) (listsOf sheet orders) (lent .position) cart) 0;
   }
 
 module _ (s p : List ℕ) (lent : Record) (cart : ℕ) where

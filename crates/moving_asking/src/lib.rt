@@ -1,5 +1,8 @@
 // A request to move a cart, by value: checks 1 to 26, and the cart's new position or how many are ahead of it.
 use judge_all_out::all_out;
+use judge_entering::Lanes;
+use judge_entering::lane_holds;
+use judge_entering::lanes;
 use judge_one_move::may_move;
 use moving_record::Record;
 use moving_record::test_record;
@@ -12,12 +15,14 @@ use words::done;
 use words::refused;
 ghost use mathlib.Core.Path.{_≡_};
 ghost use Rattle.sheet_table.specs.inner.Parts.{zone};
-ghost use Rattle.moving_asking.specs.inner.Tables.{WantsZone, notGone, noMove};
+ghost use Rattle.crossing.specs.inner.Tables.{crossingOf};
+ghost use Rattle.judge_entering.specs.inner.Lanes.{lanesOf};
+ghost use Rattle.moving_asking.specs.inner.Tables.{WantsZone, notGone, heldBy, noMove};
 ghost use Rattle.moving_asking.specs.Asking.{ask};
 ghost use Rattle.moving_asking.specs.inner.Held.{Askable, AskedIn};
 
 // What a request is answered: done with the cart's new position and the new count, or a refusal with both 0.
-// Only a cart that is held is told how many carts ahead have not left the zone that it wants.
+// Only a cart that is held is told how many carts ahead have not left the zone that it wants, with one more if the lane holds it.
 #[repr(C)]
 pub struct Asked {
     pub outcome: Outcome,
@@ -39,13 +44,33 @@ fn no_move(outcome: Outcome, ahead: u32) -> Asked
 }
 
 // How many carts ahead of cart c have not left the zone that it wants: the ones of a set.
-fn carts_ahead(sheet: &Table, ahead: &[u16; 128], at: &[u8; 16], left: &[u16; 24], c: usize) -> u32
+fn not_gone(sheet: &Table, ahead: &[u16; 128], at: &[u8; 16], left: &[u16; 24], c: usize) -> u32
     requires { ⌜ WantsZone (zone (now sheet)) (now at) c ⌝ }
     ensures { λ r. ⌜ r ≡ notGone (zone (now (sheet .entry))) (now (ahead .entry)) (now (at .entry)) (now (left .entry)) c ⌝ }
 {
     let x = 8 * c + wide(at[c]);
     let z = sheet_table::zone(sheet, x);
     carts::count(carts::less(ahead[x], left[z]))
+}
+
+// The same, and one more if the lane holds the cart.
+fn carts_ahead(
+    sheet: &Table,
+    lanes: &Lanes,
+    ahead: &[u16; 128],
+    at: &[u8; 16],
+    left: &[u16; 24],
+    c: usize,
+) -> u32
+    requires { ⌜ WantsZone (zone (now sheet)) (now at) c × (now lanes ≡ lanesOf (now sheet)) ⌝ }
+    ensures { λ r. ⌜ r ≡ heldBy (crossingOf (now (sheet .entry)) (now (ahead .entry))) (zone (now (sheet .entry))) (now (ahead .entry))
+        (now (at .entry)) (now (left .entry)) c ⌝ }
+{
+    let n = not_gone(sheet, ahead, at, left, c);
+    if lane_holds(lanes, at, c) {
+        return n + 1;
+    }
+    n
 }
 
 // A request under a readable plan, of m carts:
@@ -57,7 +82,8 @@ fn ask_plan(sheet: &Table, ahead: &[u16; 128], m: usize, lent: Record, cart: usi
     if !all_out(sheet, ahead) {
         return no_move(refused(22, 0), 0);
     }
-    let tested = test_record(sheet, ahead, lent);
+    let lanes = lanes(sheet);
+    let tested = test_record(sheet, &lanes, ahead, lent);
     if !tested.reached {
         return no_move(refused(23, 0), 0);
     }
@@ -69,8 +95,11 @@ fn ask_plan(sheet: &Table, ahead: &[u16; 128], m: usize, lent: Record, cart: usi
         return no_move(refused(25, 0), 0);
     }
     let left = tested.left;
-    if !may_move(sheet, ahead, &at, &left, cart) {
-        return no_move(refused(26, 0), carts_ahead(sheet, ahead, &at, &left, cart));
+    if !may_move(sheet, &lanes, ahead, &at, &left, cart) {
+        return no_move(
+            refused(26, 0),
+            carts_ahead(sheet, &lanes, ahead, &at, &left, cart),
+        );
     }
     Asked {
         outcome: done(),

@@ -17,26 +17,29 @@ use Rattle.sets.proofs.Counting.{has-set, set-fits}
 use Rattle.moves.proofs.Search.{any-says}
 use Rattle.routes.specs.Crossing.{Crossing, steps, HasLeft}
 use Rattle.routes.proofs.Moves.{moves-most}
-use Rattle.crossing.specs.inner.Tables.{crossingBy, LeftSet}
+use Rattle.crossing.specs.inner.Tables.{frontsBy, crossingBy, LeftSet}
 use Rattle.crossing.proofs.Tables.{step-below, steps-is, zone-is}
 use Rattle.plan_lists.specs.inner.Sets.{Routes, names, whoVisits}
 use Rattle.moving_record.specs.inner.Tables.{NonePastOut, zonesLeft, Orderly}
 
-module _ (stepTable zoneTable aheadTable : List ℕ) (orderly : Orderly stepTable zoneTable aheadTable) where
+module _ (stepTable zoneTable laneTable aheadTable : List ℕ) (orderly : Orderly stepTable zoneTable laneTable aheadTable) where
+  abbrev fronts : List ℕ
+  fronts = frontsBy stepTable zoneTable laneTable
+
   abbrev X : Crossing
-  X = crossingBy stepTable zoneTable aheadTable
+  X = crossingBy stepTable zoneTable fronts aheadTable
 
   pub tables-routes : Routes stepTable zoneTable
   tables-routes = record { few = λ c. few c (decLt c 16); known = λ c j h. known c j h (decLt c 16) }
     where
       few : (c : ℕ) → Dec (c < 16) → getD stepTable c 0 ≤ 8
-      few c (yes l) = omega (arith, orderly .steps-most c, steps-is stepTable zoneTable aheadTable c l)
+      few c (yes l) = omega (arith, orderly .steps-most c, steps-is stepTable zoneTable fronts aheadTable c l)
       few c (no n) = omega (arith, List·getD-eq-default stepTable 0 {n = c} (omega (arith, n, orderly .steps-16)))
 
       known : (c j : ℕ) → j < getD stepTable c 0 → Dec (c < 16) → getD zoneTable (8 * c + j) 0 < 24
       known c j h (yes l) =
-          let inside : j < steps X c = omega (arith, steps-is stepTable zoneTable aheadTable c l) in
-          omega (arith, orderly .zone-below c j inside, zone-is stepTable zoneTable aheadTable c l j inside)
+          let inside : j < steps X c = omega (arith, steps-is stepTable zoneTable fronts aheadTable c l) in
+          omega (arith, orderly .zone-below c j inside, zone-is stepTable zoneTable fronts aheadTable c l j inside)
       known c j h (no n) = absurd (omega (arith, List·getD-eq-default stepTable 0 {n = c} (omega (arith, n, orderly .steps-16))))
 
   module _ (at : List ℕ) (range : NonePastOut stepTable at) where
@@ -47,7 +50,7 @@ module _ (stepTable zoneTable aheadTable : List ℕ) (orderly : Orderly stepTabl
     gone-is c l = at-entry 16 (λ d. getD at d 0 - 1) c l
 
     gone-few : (c : ℕ) → c < 16 → gone c ≤ steps X c
-    gone-few c l = omega (arith, gone-is c l, range c l, moves-most (getD stepTable c 0), steps-is stepTable zoneTable aheadTable c l)
+    gone-few c l = omega (arith, gone-is c l, range c l, moves-most (getD stepTable c 0), steps-is stepTable zoneTable fronts aheadTable c l)
 
     gone-none : (c : ℕ) → ¬ (c < 16) → gone c ≡ 0
     gone-none c n = List·getD-eq-default (zonesLeft at) 0 {n = c} (omega (arith, n, length-entries 16 0 (λ d. getD at d 0 - 1)))
@@ -62,7 +65,7 @@ module _ (stepTable zoneTable aheadTable : List ℕ) (orderly : Orderly stepTabl
         known : (c j : ℕ) → j < gone c → Dec (c < 16) → getD zoneTable (8 * c + j) 0 < 24
         known c j h (yes l) =
             let inside : j < steps X c = omega (arith, gone-few c l) in
-            omega (arith, orderly .zone-below c j inside, zone-is stepTable zoneTable aheadTable c l j inside)
+            omega (arith, orderly .zone-below c j inside, zone-is stepTable zoneTable fronts aheadTable c l j inside)
         known c j h (no n) = absurd (omega (arith, gone-none c n))
 
     pub gone-routes : (passed : List ℕ) → passed ≡ zonesLeft at → Routes passed zoneTable
@@ -74,12 +77,12 @@ module _ (stepTable zoneTable aheadTable : List ℕ) (orderly : Orderly stepTabl
       λ e.
           let (j, h, there) = says .0 e in
           let inside : j < steps X d = omega (arith, gone-few d l) in
-          record { step = j; is-step = inside; there = zone-is stepTable zoneTable aheadTable d l j inside ∙ there; past = omega (arith, gone-is d l) },
+          record { step = j; is-step = inside; there = zone-is stepTable zoneTable fronts aheadTable d l j inside ∙ there; past = omega (arith, gone-is d l) },
       λ left.
           says .1 (
             left .step,
             omega (arith, gone-is d l, left .past),
-            sym (zone-is stepTable zoneTable aheadTable d l (left .step) (left .is-step))
+            sym (zone-is stepTable zoneTable fronts aheadTable d l (left .step) (left .is-step))
                 ∙ left .there,
           ),
     )
@@ -98,7 +101,7 @@ module _ (stepTable zoneTable aheadTable : List ℕ) (orderly : Orderly stepTabl
         inside l = (
           λ e. let m = has-below 16 (rule z) d (set-fits 16 (λ c. names zoneTable (gone c) c z)) e in
               names-left d z m .0 (sym (has-set 16 (λ c. names zoneTable (gone c) c z) d m) ∙ e),
-          λ left. let m = step-below stepTable zoneTable aheadTable d (left .step) (left .is-step) in
+          λ left. let m = step-below stepTable zoneTable fronts aheadTable d (left .step) (left .is-step) in
               has-set 16 (λ c. names zoneTable (gone c) c z) d m ∙ names-left d z m .1 left,
         )
 

@@ -3,7 +3,7 @@ use Prim.Native.Nat.{ℕ, zero, suc, _+_, _≤_, _<_}
 use mathlib.Core.Path.{_≡_, refl, sym, ap, _∙_}
 use mathlib.Core.Logic.{_↔_}
 use mathlib.Core.List.{List, [], _∷_}
-use native.Mathlib.Decide.{decLt, ℕ-discrete}
+use native.Mathlib.Decide.{decLt}
 use native.Mathlib.Omega.{arith}
 use lib.ListN.{length, getD, List·getD-eq-default}
 use Rattle.moves.specs.System.{pos, sum}
@@ -16,27 +16,16 @@ use Rattle.plan.specs.Valid.{sumBelow}
 use Rattle.moving_record.specs.inner.Tables.{NonePastOut}
 
 module _ (steps at : List ℕ) where
-  -- no cart before c stands past out
-  abbrev pub NoneBefore : ℕ → Type 0
-  NoneBefore c = (d : ℕ) → d < c → getD at d 0 ≤ movesOf (getD steps d 0)
-
-  pub none-next : (c : ℕ) → NoneBefore c → getD at c 0 ≤ movesOf (getD steps c 0) → NoneBefore (c + 1)
-  none-next c all here d h = go (ℕ-discrete d c)
-    where
-      go : Dec (d ≡ c) → getD at d 0 ≤ movesOf (getD steps d 0)
-      go (yes e) = rw e here
-      go (no n) = all d (omega (arith, n))
-
-  pub in-range-is : (zone ahead : List ℕ) → length at ≡ 16 → NonePastOut steps at ↔ InRange (system (crossingBy steps zone ahead)) at
-  in-range-is zone ahead sized = (
-    λ all. record { sized = sized ∙ sym (carts-16 steps zone ahead); within = λ c. below all c (decLt c 16) },
+  pub in-range-is : (zone front ahead : List ℕ) → length at ≡ 16 → NonePastOut steps at ↔ InRange (system (crossingBy steps zone front ahead)) at
+  in-range-is zone front ahead sized = (
+    λ all. record { sized = sized ∙ sym (carts-16 steps zone front ahead); within = λ c. below all c (decLt c 16) },
     λ r c l. omega (arith, r .within c, out c l),
   )
     where
-      out : (c : ℕ) → c < 16 → pos (system (crossingBy steps zone ahead) .out) c ≡ movesOf (getD steps c 0)
-      out c l = out-are (crossingBy steps zone ahead) c ∙ ap movesOf (steps-is steps zone ahead c l)
+      out : (c : ℕ) → c < 16 → pos (system (crossingBy steps zone front ahead) .out) c ≡ movesOf (getD steps c 0)
+      out c l = out-are (crossingBy steps zone front ahead) c ∙ ap movesOf (steps-is steps zone front ahead c l)
 
-      below : NonePastOut steps at → (c : ℕ) → Dec (c < 16) → pos at c ≤ pos (system (crossingBy steps zone ahead) .out) c
+      below : NonePastOut steps at → (c : ℕ) → Dec (c < 16) → pos at c ≤ pos (system (crossingBy steps zone front ahead) .out) c
       below all c (yes l) = omega (arith, all c l, out c l)
       below all c (no n) = omega (arith, List·getD-eq-default at 0 {n = c} (omega (arith, n)))
 

@@ -1,4 +1,6 @@
 // The crossing record, and whether a run of the plan reaches it.
+use judge_entering::Lanes;
+use judge_entering::front_gone;
 use judge_one_move::may_enter;
 use plan::sum_of;
 use plan_lists::who_visits;
@@ -10,10 +12,12 @@ ghost use mathlib.Core.Logic.{_↔_};
 ghost use mathlib.Core.Bool.{true};
 ghost use Prim.Native.Nat.{_-_, _≤_};
 ghost use Rattle.routes.specs.Moves.{movesOf};
-ghost use Rattle.sheet_table.specs.inner.Parts.{steps, zone};
+ghost use Rattle.sheet_table.specs.inner.Parts.{lane, steps, zone};
 ghost use Rattle.crossing.specs.inner.Tables.{crossingOf};
 ghost use Rattle.plan_lists.specs.inner.Sets.{Routes};
-ghost use Rattle.moving_record.specs.inner.Tables.{NonePastOut, zonesLeft, InZones, InTurn, AllInTurn, notReached, Orderly, TestedAs};
+ghost use Rattle.judge_entering.specs.inner.Lanes.{lanesOf, frontAt};
+ghost use Rattle.moving_record.specs.inner.Tables.{NonePastOut, zonesLeft, InZones, InTurn, AllInTurn, FrontsKnown, AllInLine};
+ghost use Rattle.moving_record.specs.inner.Tables.{notReached, Orderly, TestedAs};
 
 // The crossing record: where each cart stands, 0 on the lane, k in its k-th zone, steps + 1 out, and how many moves were made. All zero is the start.
 #[repr(C)]
@@ -104,6 +108,23 @@ fn all_in_turn(sheet: &Table, ahead: &[u16; 128], at: &[u8; 16], left: &[u16; 24
     true
 }
 
+// Whether no cart has made its first move before the cart in front of it on its lane has.
+fn all_in_line(lanes: &Lanes, at: &[u8; 16]) -> bool
+    requires { ⌜ FrontsKnown (frontAt (now lanes)) ⌝ }
+    ensures { λ r. ⌜ (r ≡ true) ↔ AllInLine (frontAt (now (lanes .entry))) (now (at .entry)) ⌝ }
+{
+    let mut c = 0;
+    while c < 16 {
+        if 0 < at[c] {
+            if !front_gone(lanes, at, c) {
+                return false;
+            }
+        }
+        c += 1;
+    }
+    true
+}
+
 // What the test of a record says: whether a run reaches it, and then for each zone the carts that have left it.
 pub struct Tested {
     pub reached: bool,
@@ -120,9 +141,10 @@ fn not_reached() -> Tested
     }
 }
 
-// Whether a run reaches the record: no cart is past out, the count is the sum of the positions, and every step entered had all carts ahead gone.
-pub fn test_record(sheet: &Table, ahead: &[u16; 128], lent: Record) -> Tested
-    requires { ⌜ Orderly (steps (now sheet)) (zone (now sheet)) (now ahead) ⌝ }
+// Whether a run reaches the record: no cart is past out, the count is the sum of the positions, every step entered had all carts ahead gone,
+// and every cart that has started had the cart in front of it gone.
+pub fn test_record(sheet: &Table, lanes: &Lanes, ahead: &[u16; 128], lent: Record) -> Tested
+    requires { ⌜ Orderly (steps (now sheet)) (zone (now sheet)) (lane (now sheet)) (now ahead) × (now lanes ≡ lanesOf (now sheet)) ⌝ }
     ensures { λ r. ⌜ TestedAs (crossingOf (now (sheet .entry)) (now (ahead .entry))) lent r ⌝ }
 {
     let at = lent.position;
@@ -135,6 +157,9 @@ pub fn test_record(sheet: &Table, ahead: &[u16; 128], lent: Record) -> Tested
     let gone = zones_left(&at);
     let left = who_visits(sheet, &gone);
     if !all_in_turn(sheet, ahead, &at, &left) {
+        return not_reached();
+    }
+    if !all_in_line(lanes, &at) {
         return not_reached();
     }
     Tested {

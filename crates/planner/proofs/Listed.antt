@@ -14,7 +14,7 @@ use Rattle.sheet.specs.Valid.{Valid}
 use Rattle.sheet.specs.declared.Sheet.{Sheet}
 use Rattle.plan_lists.specs.inner.Sets.{whoVisits}
 use Rattle.plan_reader.proofs.ValidLaws.{valid-routes}
-use Rattle.crossing.specs.inner.Tables.{crossingBy, sheetCrossing}
+use Rattle.crossing.specs.inner.Tables.{sheetFronts, crossingBy, sheetCrossing}
 use Rattle.crossing.specs.Plans.{sheetGiven, ordersBy}
 use Rattle.crossing.specs.inner.Sound.{Sound}
 use Rattle.judge_entering.specs.Times.{timesOf}
@@ -74,7 +74,8 @@ module _ (sheet : Sheet) (v : Valid sheet) (F : Crossing) (good : Passable (unpl
     finish-told : largest (lastLeaving (sheet .steps) (sheet .passing) enter) 16 ≡ finishOf sheet F
     unfolding finish crossingBy
     finish-told =
-        finish-is (sheet .steps) (sheet .zone) ahead (sheet .lane) (sheet .arrival) (sheet .passing) (sheet .travel) (sheet .follow) (sheet .cross) enter
+        finish-is (sheet .steps) (sheet .zone) (sheetFronts sheet) ahead (sheet .lane) (sheet .arrival) (sheet .passing) (sheet .travel) (sheet .follow)
+        (sheet .cross) enter
         (times-keep X G (listed-sound .only) (timesOf enter) (settled-times X G at left enter order made settled all-out))
         ∙ finish-same Z G (timesOf enter) (enteringTime Z G (movesMade Z))
         (stands-times (sheet .steps) (sheet .zone) _ _ _ _ _ _ _ _ (F .before) only ahead own at left enter order made settled out)

@@ -1,6 +1,6 @@
 -- "for every valid sheet it isn't locked", by each rule: planned orders are readable, read back the same, and accepted with the planner's finish.
 use Prim.Native.Nat.{ℕ, _≤_}
-use mathlib.Core.Path.{_≡_, sym, ap, ap₂, subst, _∙_}
+use mathlib.Core.Path.{_≡_, refl, sym, ap, ap₂, subst, _∙_}
 use mathlib.Core.Bool.{true}
 use mathlib.Core.List.{List}
 use lib.ListN.{length}
@@ -36,7 +36,7 @@ use Rattle.judge.specs.Judging as judging
 use Rattle.judge.specs.declared.Judged.{Judged}
 use Rattle.judge.proofs.Verdict.{accepts-out}
 use Rattle.judge.proofs.Words.{judged-times}
-use Rattle.removal.specs.Pairs.{Unplanned}
+use Rattle.removal.specs.Pairs.{Unplanned, frontIn}
 use Rattle.removal.specs.inner.Plannable.{Plannable}
 use Rattle.removal.specs.inner.Passable.{Passable}
 use Rattle.removal.specs.Removal.{passingLists}
@@ -101,17 +101,18 @@ module _ (sheet : Sheet) (v : Valid sheet) (rule : Rule) where
   out : isOut F ≡ true
   out = ap isOut (sym is-ordered) ∙ good .comes-out
 
-  same-orders : (z d c : ℕ) → Visiting U c z → plan (routesOf sheet) lists .before z d c ≡ F .before z d c
+  same-orders : (z d c : ℕ) → Visiting U c z → plan (frontIn U) (routesOf sheet) lists .before z d c ≡ F .before z d c
   same-orders = planned-orders U able (orderedBy sheet rule) good
 
   abbrev P : Crossing
   P = planCrossing sheet orders
 
-  planned-crossing : P ≡ plan (routesOf sheet) lists
-  planned-crossing = ap (plan (routesOf sheet)) planned-lists
+  planned-crossing : P ≡ plan (frontIn U) (routesOf sheet) lists
+  planned-crossing = ap (plan (frontIn U) (routesOf sheet)) planned-lists
 
   planned-system : system P ≡ system F
-  planned-system = ap system planned-crossing ∙ system-same (routesOf sheet) (plan (routesOf sheet) lists .before) (F .before) same-orders
+  planned-system = ap system planned-crossing ∙ system-same (routesOf sheet) (frontIn U) (F .front) (plan (frontIn U) (routesOf sheet) lists .before)
+      (F .before) (λ _ _. refl) same-orders
 
   -- "it isn't locked"
   pub planned-accepted : judging.isOut sheet orders ≡ true
@@ -126,7 +127,7 @@ module _ (sheet : Sheet) (v : Valid sheet) (rule : Rule) where
   judged-times-are c s h =
       subst (λ (X : Crossing). EnteringTimes X G (judging.enteringTime sheet orders)) planned-crossing
       (judged-times sheet orders v planned-valid planned-accepted) c s h
-      ∙ entering-orders (routesOf sheet) (plan (routesOf sheet) lists .before) (F .before) same-orders G
+      ∙ entering-orders (routesOf sheet) (frontIn U) (F .front) (plan (frontIn U) (routesOf sheet) lists .before) (F .before) (λ _ _. refl) same-orders G
       (judging.enteringTime sheet orders) c s h
 
   pub planned-finish : planned sheet rule .finish ≡ judging.judged sheet orders .finish

@@ -1,5 +1,5 @@
 -- The orders by each rule are passable, over the sheet's own routes; and of two plans the better one's lists are the lists of the better orders.
-use mathlib.Core.Path.{_≡_, refl, ap}
+use mathlib.Core.Path.{_≡_, refl, ap, _∙_}
 use mathlib.Core.Bool.{Bool, true, false}
 use mathlib.Core.List.{List}
 use Prim.Native.Nat.{ℕ}
@@ -28,7 +28,9 @@ use Rattle.planner.specs.declared.Rule.{Rule}
 use Rattle.planner.specs.declared.Rule.the-variants.{Removal, First, Better}
 
 pub as-ordered : (U : Unplanned) (X : Crossing) → Passable U X → X ≡ ordered U (X .before)
-as-ordered U X good = ap (λ (routes : List (List ℕ)). record { routes = routes; before = X .before }) (good .routed)
+as-ordered U X good =
+    ap (λ (routes : List (List ℕ)). record { routes = routes; front = X .front; before = X .before }) (good .routed)
+    ∙ ap (λ (front : ℕ → ℕ). record { routes = U .routes; front = front; before = X .before }) (good .fronted)
 
 module _ (sheet : Sheet) (v : Valid sheet) where
   able : Plannable (unplanned sheet)

@@ -103,7 +103,7 @@ module _ (n m : ℕ) (sheet : List ℕ) (v : Valid (sheetIn n m sheet)) {visitor
           arith,
           h,
           v .carts-most,
-          steps-is (parts.steps sheet) (parts.zone sheet) [] c
+          steps-is (parts.steps sheet) (parts.zone sheet) [] [] c
               (omega (arith, v .carts-most)),
         ) in
         let z = zone (unordered U) c j in

@@ -11,7 +11,6 @@ use lib.Seq.{getD-set-same, getD-set-other}
 use lib.Pow.{pow-lt}
 use lib.Dec.{ltb, eqb}
 use borrow.Author.Tests.{lt-ltb, le-ltb, eq-eqb, ne-eqb}
-use Rattle.words.proofs.Entries.{at-entry}
 use Rattle.words.proofs.Tests.{eqb-turned}
 use Rattle.words.proofs.Tables.{row-at, column-at}
 use Rattle.sets.specs.inner.Member.{has, Without, Less}
@@ -27,14 +26,14 @@ use Rattle.crossing.specs.Plans.{givenBy}
 use Rattle.crossing.proofs.Tables.{steps-is}
 use Rattle.removal.specs.Pairs.{Unplanned, visits, sameLane, isPair}
 use Rattle.sheet_table.specs.inner.Parts as parts
-use Rattle.judge_entering.specs.inner.Lanes.{onLane, lanesOf}
+use Rattle.judge_entering.specs.inner.Lanes.{matesOf}
+use Rattle.judge_entering.proofs.LaneLaws.{in-own}
 use Rattle.planner_orders.specs.inner.Unplanned.{unplannedOf, unordered, SheetSized}
 use Rattle.planner_orders.specs.inner.Holds.{StepHolds, Holds}
 use Rattle.planner_orders.proofs.Ranks.{start-before}
 use Rattle.planner_orders.proofs.Groups.{none-undecided}
 use Rattle.planner_groups.specs.inner.Pairs.{HasPairs}
 use Rattle.planner_groups.specs.inner.Starting.{visitingAt, Lent, Starts}
-use Rattle.planner_groups.proofs.Sets.{set-has}
 use Rattle.planner_groups.proofs.Visitors.{visiting-says}
 
 -- ---- the carts with lower numbers
@@ -101,13 +100,13 @@ parted who mates c apart own low later ahead behind apart-is own-is low-is later
 
 -- ---- place by place
 
-module _ (sheet visitors mates : List ℕ) where
+module _ (sheet visitors : List ℕ) where
   -- the places below x are done
   pub record StartedTo (x : ℕ) (ahead behind pairs : List ℕ) : Type 0 where
     pub ahead-128 : length ahead ≡ 128
     pub behind-128 : length behind ≡ 128
     pub pairs-128 : length pairs ≡ 128
-    pub passed : (k : ℕ) → k < x → Parted (visitingAt sheet visitors k) (getD mates (k / 8) 0) (k / 8) (getD ahead k 0) (getD behind k 0) (getD pairs k 0)
+    pub passed : (k : ℕ) → k < x → Parted (visitingAt sheet visitors k) (matesOf sheet (k / 8)) (k / 8) (getD ahead k 0) (getD behind k 0) (getD pairs k 0)
 
   pub started-none : (ahead behind pairs : List ℕ) → Lent sheet visitors ahead behind pairs → StartedTo 0 ahead behind pairs
   started-none ahead behind pairs lent = record {
@@ -117,10 +116,10 @@ module _ (sheet visitors mates : List ℕ) where
     passed = λ k l. absurd (omega arith);
   }
 
-  pub started-next : (x : ℕ) (ahead behind pairs : List ℕ) (who a b p : ℕ) → x < 128 → who ≡ visitingAt sheet visitors x
-      → StartedTo x ahead behind pairs → Parted who (getD mates (x / 8) 0) (x / 8) a b p
+  pub started-next : (x : ℕ) (ahead behind pairs : List ℕ) (who mates a b p : ℕ) → x < 128 → who ≡ visitingAt sheet visitors x
+      → mates ≡ matesOf sheet (x / 8) → StartedTo x ahead behind pairs → Parted who mates (x / 8) a b p
       → StartedTo (x + 1) (set ahead x a) (set behind x b) (set pairs x p)
-  started-next x ahead behind pairs who a b p l is so-far new = record {
+  started-next x ahead behind pairs who mates a b p l is mates-are so-far new = record {
     ahead-128 = length-set ahead x a ∙ so-far .ahead-128;
     behind-128 = length-set behind x b ∙ so-far .behind-128;
     pairs-128 = length-set pairs x p ∙ so-far .pairs-128;
@@ -128,7 +127,7 @@ module _ (sheet visitors mates : List ℕ) where
   }
     where
       go : (k : ℕ) → k < x + 1 → Dec (k ≡ x)
-          → Parted (visitingAt sheet visitors k) (getD mates (k / 8) 0) (k / 8) (getD (set ahead x a) k 0) (getD (set behind x b) k 0)
+          → Parted (visitingAt sheet visitors k) (matesOf sheet (k / 8)) (k / 8) (getD (set ahead x a) k 0) (getD (set behind x b) k 0)
           (getD (set pairs x p) k 0)
       go k below (yes e) = rw (
         e,
@@ -136,6 +135,7 @@ module _ (sheet visitors mates : List ℕ) where
         getD-set-same behind x b 0 (omega (arith, so-far .behind-128)),
         getD-set-same pairs x p 0 (omega (arith, so-far .pairs-128)),
         ← is,
+        ← mates-are,
       ) new
       go k below (no n) =
           rw (getD-set-other ahead x k a 0 n, getD-set-other behind x k b 0 n, getD-set-other pairs x k p 0 n) (so-far .passed k (omega (arith, n)))
@@ -159,9 +159,8 @@ off-lane : (who other lane mate : Bool) → other ≡ true → (who ≡ true →
 off-lane false other lane mate o m = refl
 off-lane true other lane mate o m = rw (o, m refl)
 
-module _ (sheet visitors ahead behind pairs mates : List ℕ) (sheet-routes : Routes (parts.steps sheet) (parts.zone sheet))
-    (visitors-are : visitors ≡ whoVisits (parts.steps sheet) (parts.zone sheet)) (mates-are : mates ≡ lanesOf (parts.lane sheet))
-    (done : StartedTo sheet visitors mates 128 ahead behind pairs) where
+module _ (sheet visitors ahead behind pairs : List ℕ) (sheet-routes : Routes (parts.steps sheet) (parts.zone sheet))
+    (visitors-are : visitors ≡ whoVisits (parts.steps sheet) (parts.zone sheet)) (done : StartedTo sheet visitors 128 ahead behind pairs) where
   module _ (zones carts : ℕ) (sized : SheetSized (unplannedOf sheet zones carts)) where
     abbrev U : Unplanned
     U = unplannedOf sheet zones carts
@@ -175,9 +174,9 @@ module _ (sheet visitors ahead behind pairs mates : List ℕ) (sheet-routes : Ro
     abbrev who : ℕ → ℕ
     who = visitingAt sheet visitors
 
-    lane-says : (c d : ℕ) → c < 16 → d < 16 → has (getD mates c 0) d ≡ sameLane U d c
-    unfolding onLane givenBy
-    lane-says c d l m = rw mates-are (set-has 16 _ _ (at-entry 16 _ c l) d m)
+    lane-says : (c d : ℕ) → d < 16 → has (matesOf sheet c) d ≡ sameLane U d c
+    unfolding givenBy
+    lane-says = in-own sheet
 
     module _ (c j : ℕ) (h : j < steps (unordered U) c) where
       abbrev z : ℕ
@@ -186,10 +185,10 @@ module _ (sheet visitors ahead behind pairs mates : List ℕ) (sheet-routes : Ro
       cart : c < 16
       cart = omega (arith, sized .able .cart-below c _ (j, h, refl), sized .carts-most)
 
-      here : Parted (who (8 * c + j)) (getD mates c 0) c (getD ahead (8 * c + j) 0) (getD behind (8 * c + j) 0) (getD pairs (8 * c + j) 0)
+      here : Parted (who (8 * c + j)) (matesOf sheet c) c (getD ahead (8 * c + j) 0) (getD behind (8 * c + j) 0) (getD pairs (8 * c + j) 0)
       here =
           let few : j < 8 = omega (arith, sized .ranged .steps-most c) in
-          subst (λ (i : ℕ). Parted (who (8 * c + j)) (getD mates i 0) i (getD ahead (8 * c + j) 0) (getD behind (8 * c + j) 0)
+          subst (λ (i : ℕ). Parted (who (8 * c + j)) (matesOf sheet i) i (getD ahead (8 * c + j) 0) (getD behind (8 * c + j) 0)
           (getD pairs (8 * c + j) 0)) (row-at c j few)
           (done .passed (8 * c + j) (omega (arith, cart)))
 
@@ -199,22 +198,22 @@ module _ (sheet visitors ahead behind pairs mates : List ℕ) (sheet-routes : Ro
       own : visits U c z ≡ true
       own = named-says (getD (U .routes) c []) z .1 (j, h, refl)
 
-      mate-says : (d : ℕ) → visits U d z ≡ true → has (getD mates c 0) d ≡ sameLane U d c
+      mate-says : (d : ℕ) → visits U d z ≡ true → has (matesOf sheet c) d ≡ sameLane U d c
       mate-says d e =
           let (k, m, _) = named-says (getD (U .routes) d []) z .0 e in
-          lane-says c d cart (omega (arith, sized .able .cart-below d _ (k, m, refl), sized .carts-most))
+          lane-says c d (omega (arith, sized .able .cart-below d _ (k, m, refl), sized .carts-most))
 
       step-starts : StepHolds U 0 0 [] z c (getD ahead (8 * c + j) 0) (getD behind (8 * c + j) 0) 0
       step-starts = record {
         ahead-is = λ d.
             here .ahead-are d
-            ∙ ap (λ (b : Bool). b && (has (getD mates c 0) d && ltb d c)) (who-says d)
-            ∙ on-lane (visits U d z) (visits U c z) (sameLane U d c) (has (getD mates c 0) d) (ltb d c) own (mate-says d)
+            ∙ ap (λ (b : Bool). b && (has (matesOf sheet c) d && ltb d c)) (who-says d)
+            ∙ on-lane (visits U d z) (visits U c z) (sameLane U d c) (has (matesOf sheet c) d) (ltb d c) own (mate-says d)
             ∙ sym (start-before U z d c []);
         behind-is = λ d.
             here .behind-are d
-            ∙ ap (λ (b : Bool). b && (has (getD mates c 0) d && ltb c d)) (who-says d)
-            ∙ on-lane (visits U d z) (visits U c z) (sameLane U c d) (has (getD mates c 0) d) (ltb c d) own
+            ∙ ap (λ (b : Bool). b && (has (matesOf sheet c) d && ltb c d)) (who-says d)
+            ∙ on-lane (visits U d z) (visits U c z) (sameLane U c d) (has (matesOf sheet c) d) (ltb c d) own
             (λ e. mate-says d e ∙ eqb-turned (U .given .lane d) (U .given .lane c))
             ∙ ap (λ (b : Bool). b && (sameLane U c d && ltb c d)) (and-comm (visits U d z) (visits U c z))
             ∙ sym (start-before U z c d []);
@@ -225,8 +224,8 @@ module _ (sheet visitors ahead behind pairs mates : List ℕ) (sheet-routes : Ro
       unfolding isPair
       step-pairs d =
           here .pairs-are d
-          ∙ ap (λ (b : Bool). b && not (has (getD mates c 0) d)) (who-says d)
-          ∙ off-lane (visits U d z) (visits U c z) (sameLane U d c) (has (getD mates c 0) d) own (mate-says d)
+          ∙ ap (λ (b : Bool). b && not (has (matesOf sheet c) d)) (who-says d)
+          ∙ off-lane (visits U d z) (visits U c z) (sameLane U d c) (has (matesOf sheet c) d) own (mate-says d)
 
     no-step : (c j : ℕ) → j < 8 → steps (unordered U) c ≤ j → (getD ahead (8 * c + j) 0 ≡ 0) × (getD behind (8 * c + j) 0 ≡ 0) × (getD pairs (8 * c + j) 0 ≡ 0)
     unfolding crossingBy
@@ -237,7 +236,7 @@ module _ (sheet visitors ahead behind pairs mates : List ℕ) (sheet-routes : Ro
                 row-at c j few,
                 column-at c j few,
                 le-ltb j (getD stepTable c 0)
-                    (omega (arith, past, steps-is stepTable zoneTable [] c l)),
+                    (omega (arith, past, steps-is stepTable zoneTable [] [] c l)),
               ) in
               parted-none _ _ _ _ _ _ none (done .passed (8 * c + j) (omega arith))
           | no m ↦ (

@@ -71,8 +71,8 @@ module _ (sheet visitors : List ℕ) (sheet-routes : Routes (parts.steps sheet) 
   visiting-says c j h d =
       let cart : c < 16 = omega (arith, sized .able .cart-below c _ (j, h, refl), sized .carts-most) in
       let few : j < 8 = omega (arith, sized .ranged .steps-most c) in
-      let below : j < getD stepPart c 0 = omega (arith, h, steps-is stepPart zonePart [] c cart) in
-      let there = zone-is stepPart zonePart [] c cart j h in
+      let below : j < getD stepPart c 0 = omega (arith, h, steps-is stepPart zonePart [] [] c cart) in
+      let there = zone-is stepPart zonePart [] [] c cart j h in
       let known = sheet-routes .known c j below in
       rw (row-at c j few, column-at c j few, lt-ltb j (getD stepPart c 0) below, visitors-are, there)
       (visitors-says stepPart zonePart (getD zonePart (8 * c + j) 0) known d)

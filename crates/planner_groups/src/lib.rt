@@ -1,5 +1,6 @@
 // A group of ranks opened in the tables of the orders present, and the tables at the start.
 use judge_entering::lanes;
+use judge_entering::mates;
 use sets::carts;
 use sheet_table::Table;
 use sheet_table::wide;
@@ -95,11 +96,11 @@ pub fn start_orders(
     requires { ⌜ Lent (now sheet) (now visitors) (now ahead) (now behind) (now pairs) ⌝ }
     ensures { λ r. ⌜ Starts (now (sheet .entry)) (now (ahead .exit)) (now (behind .exit)) (now (pairs .exit)) ⌝ }
 {
-    let mates = lanes(sheet);
+    let lanes = lanes(sheet);
     let mut x = 0;
     while x < 128 {
         let who = visiting(sheet, visitors, x);
-        let apart = carts::less(who, mates[x / 8]);
+        let apart = carts::less(who, mates(sheet, &lanes, x / 8));
         let own = carts::less(who, apart);
         let later = carts::less(own, lower(x / 8));
         pairs[x] = apart;

@@ -69,14 +69,14 @@ module _ (stepTable zoneTable lane arrival passing travel follow cross : List �
     table-step : (c j : ℕ) → IsStep stepTable c j → (j < steps (unordered U) c) × (zone (unordered U) c j ≡ zoneAt zoneTable c j)
     unfolding crossingBy
     table-step c j (l, h) =
-        let below : j < steps (unordered U) c = omega (arith, h, steps-is stepTable zoneTable [] c l) in
-        (below, zone-is stepTable zoneTable [] c l j below)
+        let below : j < steps (unordered U) c = omega (arith, h, steps-is stepTable zoneTable [] [] c l) in
+        (below, zone-is stepTable zoneTable [] [] c l j below)
 
     step-table : (c j : ℕ) → j < steps (unordered U) c → IsStep stepTable c j × (zone (unordered U) c j ≡ zoneAt zoneTable c j)
     unfolding crossingBy
     step-table c j h =
         let l : c < 16 = omega (arith, able .cart-below c (zone (unordered U) c j) (j, h, refl), stands .sheet-sized .carts-most) in
-        ((l, omega (arith, h, steps-is stepTable zoneTable [] c l)), zone-is stepTable zoneTable [] c l j h)
+        ((l, omega (arith, h, steps-is stepTable zoneTable [] [] c l)), zone-is stepTable zoneTable [] [] c l j h)
 
     -- the carts counted in a step's set are those that go before
     place-is : (c j : ℕ) → j < steps (unordered U) c → placeAt ahead c j ≡ place (zone (unordered U) c j) c

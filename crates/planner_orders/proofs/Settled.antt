@@ -21,10 +21,11 @@ use Rattle.times.specs.Times.{Given, entering}
 use Rattle.times.specs.inner.Times.{EnteringTimes, Ranged}
 use Rattle.times.proofs.Times.{times-unique}
 use Rattle.times.proofs.SameOrders.{system-same, entering-orders}
-use Rattle.crossing.specs.inner.Tables.{crossingBy}
+use Rattle.crossing.specs.inner.Tables.{frontsBy, crossingBy}
 use Rattle.crossing.specs.Plans.{routeOf, givenBy}
 use Rattle.crossing.specs.inner.Sound.{Sound}
-use Rattle.crossing.proofs.Tables.{step-below, route-is, before-is}
+use Rattle.crossing.proofs.Tables.{step-below, route-is, steps-is, before-is}
+use Rattle.crossing.proofs.Fronts.{fronts-are}
 use Rattle.judge_entering.specs.Times.{timesOf}
 use Rattle.judge_running.specs.inner.Settled.{SettlesAs}
 use Rattle.judge_running.proofs.Verdict.{settled-out, settled-times}
@@ -60,9 +61,12 @@ module _ (stepTable zoneTable lane arrival passing travel follow cross : List �
   abbrev G : Given
   G = givenBy lane arrival passing travel follow cross
 
+  abbrev frontTable : List ℕ
+  frontTable = frontsBy stepTable zoneTable lane
+
   module _ (before : ℕ → ℕ → ℕ → Bool) (only : OnlyVisitors (ordered U′ before)) (ahead : List ℕ) (stands : StandsFor U′ (ordered U′ before) ahead) where
     abbrev X : Crossing
-    X = crossingBy stepTable zoneTable ahead
+    X = crossingBy stepTable zoneTable frontTable ahead
 
     abbrev Z : Crossing
     Z = ordered U′ before
@@ -74,20 +78,27 @@ module _ (stepTable zoneTable lane arrival passing travel follow cross : List �
     agree : (z d c : ℕ) → Named (getD (U′ .routes) c []) z → X .before z d c ≡ Z .before z d c
     unfolding crossingBy
     agree z d c (j, h, at) =
-        let l = step-below stepTable zoneTable ahead c j h in
-        before-is stepTable zoneTable ahead c l once j d z h at
+        let l = step-below stepTable zoneTable frontTable ahead c j h in
+        before-is stepTable zoneTable frontTable ahead c l once j d z h at
         ∙ stands .ahead-is c j d h
         ∙ ap (λ (y : ℕ). Z .before y d c) at
+
+    -- the carts in front are the same
+    fronts : (c : ℕ) → 0 < steps X c → X .front c ≡ Z .front c
+    unfolding crossingBy givenBy
+    fronts c some =
+        let l = step-below stepTable zoneTable frontTable ahead c 0 some in
+        fronts-are stepTable zoneTable lane c l (omega (arith, steps-is stepTable zoneTable frontTable ahead c l))
 
     -- the tables permit the moves that the orders do
     pub stands-system : system X ≡ system Z
     unfolding crossingBy
-    stands-system = system-same (U′ .routes) (X .before) (Z .before) agree
+    stands-system = system-same (U′ .routes) (X .front) (Z .front) (X .before) (Z .before) fronts agree
 
     -- and give the same entering times
     stands-entering : (t : ℕ → ℕ → ℕ) (c s : ℕ) → s < steps X c → entering X G t c s ≡ entering Z G t c s
     unfolding crossingBy
-    stands-entering = entering-orders (U′ .routes) (X .before) (Z .before) agree G
+    stands-entering = entering-orders (U′ .routes) (X .front) (Z .front) (X .before) (Z .before) fronts agree G
 
     -- carts may be moved over the tables
     pub stands-sound : length stepTable ≡ 16 → Sound X G
@@ -97,7 +108,7 @@ module _ (stepTable zoneTable lane arrival passing travel follow cross : List �
       only = λ z d c b.
           let (named, _) = and-both (isNamed (routeOf stepTable zoneTable c) z) _ b in
           let here = named-says (routeOf stepTable zoneTable c) z .0 named in
-          let visit : Named (getD (U′ .routes) c []) z = rw (route-is stepTable zoneTable ahead c (cart-below few c z here)) here in
+          let visit : Named (getD (U′ .routes) c []) z = rw (route-is stepTable zoneTable frontTable ahead c (cart-below few c z here)) here in
           only z d c (sym (agree z d c visit) ∙ b);
       zone-below = λ c j h. omega (arith, stands .sheet-sized .able .zone-below c _ (j, h, refl), stands .sheet-sized .zones-most);
       ranged = ranges;
@@ -138,7 +149,7 @@ module _ (stepTable zoneTable lane arrival passing travel follow cross : List �
   -- the same of the orders present while a group is solved
   module _ (low high : ℕ) (decided : List Order) (ahead behind undecided : List ℕ) (holds : Holds U′ low high decided ahead behind undecided) where
     abbrev Y : Crossing
-    Y = crossingBy stepTable zoneTable ahead
+    Y = crossingBy stepTable zoneTable frontTable ahead
 
     abbrev P : Crossing
     P = present U′ low high decided

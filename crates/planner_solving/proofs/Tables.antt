@@ -42,7 +42,7 @@ module _ (zones carts : ℕ) (table : List ℕ) (v : Valid (sheetIn zones carts 
   unfolding crossingBy
   sheet-routed = record {
     routes = valid-routes sheet v;
-    once = λ c l. rw (route-is (sheet .steps) (sheet .zone) [] c l) at (sheet-once sheet v [] c);
+    once = λ c l. rw (route-is (sheet .steps) (sheet .zone) [] [] c l) at (sheet-once sheet v [] c);
   }
 
   pub lanes-most : AtMost 15 (sheet .lane)

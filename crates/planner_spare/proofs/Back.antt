@@ -19,6 +19,7 @@ use Rattle.routes.specs.Crossing.{Crossing, steps}
 use Rattle.routes.specs.Moves.{movesOf, system}
 use Rattle.routes.proofs.Moves.{moves-most, out-are}
 use Rattle.times.specs.Times.{Given, finish}
+use Rattle.sheet_table.specs.inner.Parts as parts
 use Rattle.judge_one_move.proofs.Stored.{most-stored}
 use Rattle.judge_entering.specs.Times.{timesOf}
 use Rattle.judge_entering.specs.inner.Times.{AtMost}
@@ -42,9 +43,9 @@ after-next s order i l = ap (after s) (take-suc order i 0 l) ∙ after-append s 
 
 -- ---- the spare times so far
 
-module _ (stepTable zoneTable passing behind visit enter order : List ℕ) (made finishing : ℕ) where
+module _ (sheet rears behind visit enter order : List ℕ) (made finishing : ℕ) where
   abbrev X : Crossing
-  X = crossingBehind stepTable zoneTable behind
+  X = crossingBehind sheet behind
 
   -- all carts on their lanes
   abbrev lanes : List ℕ
@@ -63,14 +64,14 @@ module _ (stepTable zoneTable passing behind visit enter order : List ℕ) (made
     pub at-is : at ≡ after lanes (take k order)
     pub sized : length spare ≡ 128
     pub most : AtMost finishing spare
-    pub holds : (G : Given) → PassingIs passing G → (c j : ℕ) → j < steps X c → timesOf spare c j ≡ back G k c j
+    pub holds : (G : Given) → PassingIs (parts.passing sheet) G → (c j : ℕ) → j < steps X c → timesOf spare c j ≡ back G k c j
 
-  pub back-start : (at spare : List ℕ) → SpareReady stepTable zoneTable passing behind visit enter order made finishing spare
-      → at ≡ entries 16 0 (λ c. movesOf (getD stepTable c 0)) → BackTo made at spare
+  pub back-start : (at spare : List ℕ) → SpareReady sheet rears behind visit enter order made finishing spare
+      → at ≡ entries 16 0 (λ c. movesOf (getD (parts.steps sheet) c 0)) → BackTo made at spare
   unfolding workedBack
   back-start at spare ready out = record {
     few = le-refl made;
-    at-is = out ∙ sym (behind-out stepTable zoneTable behind) ∙ sym (ready .run-ends);
+    at-is = out ∙ sym (behind-out sheet behind) ∙ sym (ready .run-ends);
     sized = rw (ready .spare-none) refl;
     most = λ x. rw (ready .spare-none) (omega (arith, zeros-pos 128 x));
     holds = λ G _ c j _. rw (ready .spare-none, none) (zeros-pos 128 (8 * c + j));
@@ -81,7 +82,7 @@ module _ (stepTable zoneTable passing behind visit enter order : List ℕ) (made
           let whole : length (take made order) ≡ made = length-take-le made order (omega (arith, ready .order-144, ready .few)) in
           ap (λ (n : ℕ). drop n (take made order)) (sym whole) ∙ drop-length (take made order)
 
-  pub back-end : (k : ℕ) (at spare : List ℕ) → k ≤ 0 → BackTo k at spare → SpareTimes stepTable zoneTable passing behind enter order made finishing spare
+  pub back-end : (k : ℕ) (at spare : List ℕ) → k ≤ 0 → BackTo k at spare → SpareTimes sheet behind enter order made finishing spare
   unfolding spareTime
   back-end k at spare none to = record {
     spare-is = λ G given is c j h.
@@ -89,14 +90,14 @@ module _ (stepTable zoneTable passing behind visit enter order : List ℕ) (made
         ∙ ap (λ (n : ℕ). back G n c j) {x = k} {y = 0} (omega arith)
         ∙ ap (λ (f : ℕ). workedBack (spareRule X G (timesOf enter) f) (λ _ _. 0) lanes (take made order) c j) is
         ∙ ap (λ (s : List ℕ). workedBack (spareRule X G (timesOf enter) (finish X G (timesOf enter))) (λ _ _. 0) s (take made order) c j)
-        (sym (behind-start stepTable zoneTable behind));
+        (sym (behind-start sheet behind));
     spare-128 = to .sized;
     spare-most = to .most;
   }
 
   -- ---- one move taken back: the one after the first i
 
-  module _ (spare₀ : List ℕ) (ready : SpareReady stepTable zoneTable passing behind visit enter order made finishing spare₀)
+  module _ (spare₀ : List ℕ) (ready : SpareReady sheet rears behind visit enter order made finishing spare₀)
       (i k : ℕ) (e : k ≡ suc i) (at spare : List ℕ) (to : BackTo k at spare) where
     abbrev run : List ℕ
     run = take made order
@@ -136,8 +137,8 @@ module _ (stepTable zoneTable passing behind visit enter order : List ℕ) (made
     step-is : step ≡ pos s cart
     step-is = ap (λ (l : List ℕ). pos l cart) at-back
 
-    counted : steps X cart ≡ getD stepTable cart 0
-    counted = behind-steps stepTable zoneTable behind cart turn-cart
+    counted : steps X cart ≡ getD (parts.steps sheet) cart 0
+    counted = behind-steps sheet behind cart turn-cart
 
     -- no cart is past out
     pub turn-few : step ≤ 8
@@ -152,7 +153,7 @@ module _ (stepTable zoneTable passing behind visit enter order : List ℕ) (made
           out-are X cart,
           ap movesOf counted,
           moves-most
-              (getD stepTable cart 0),
+              (getD (parts.steps sheet) cart 0),
           ready .tables .routed .routes .few cart,
         )
       where
@@ -163,7 +164,7 @@ module _ (stepTable zoneTable passing behind visit enter order : List ℕ) (made
             ∙ ap (after lanes) (take-append-drop k run)
             ∙ ready .run-ends
 
-    module _ (G : Given) (given : PassingIs passing G) where
+    module _ (G : Given) (given : PassingIs (parts.passing sheet) G) where
       -- the values so far
       abbrev later : ℕ → ℕ → ℕ
       later = workedBack (rule G) (λ _ _. 0) (moved s cart) (drop (suc i) run)
@@ -190,7 +191,7 @@ module _ (stepTable zoneTable passing behind visit enter order : List ℕ) (made
       back-other d q h n = holds-later d q h ∙ sym (put-other later cart step (rule G later cart step) d q n) ∙ sym (back-put d q)
 
     -- the move out is no step
-    pub turn-out : getD stepTable cart 0 ≤ step → BackTo i at′ spare
+    pub turn-out : getD (parts.steps sheet) cart 0 ≤ step → BackTo i at′ spare
     turn-out past = record {
       few = omega (arith, to .few);
       at-is = at-back;
@@ -199,8 +200,8 @@ module _ (stepTable zoneTable passing behind visit enter order : List ℕ) (made
       holds = λ G given d q h. back-other G given d q h (λ (dc, qs). omega (arith, counted, ap (steps X) dc));
     }
 
-    pub turn-step : step < getD stepTable cart 0 → (more : List ℕ)
-        → more ≡ set spare (8 * cart + step) (leastIn stepTable zoneTable passing behind visit enter spare finishing cart step) → BackTo i at′ more
+    pub turn-step : step < getD (parts.steps sheet) cart 0 → (more : List ℕ)
+        → more ≡ set spare (8 * cart + step) (leastIn sheet rears behind visit enter spare finishing cart step) → BackTo i at′ more
     turn-step inner more is = rw is record {
       few = omega (arith, to .few);
       at-is = at-back;
@@ -210,7 +211,7 @@ module _ (stepTable zoneTable passing behind visit enter order : List ℕ) (made
     }
       where
         value : ℕ
-        value = leastIn stepTable zoneTable passing behind visit enter spare finishing cart step
+        value = leastIn sheet rears behind visit enter spare finishing cart step
 
         eight : step < 8
         eight = omega (arith, ready .tables .routed .routes .few cart)
@@ -219,22 +220,22 @@ module _ (stepTable zoneTable passing behind visit enter order : List ℕ) (made
         place-below = omega (arith, to .sized, turn-cart, eight)
 
         value-most : value ≤ finishing
-        value-most = least-most stepTable zoneTable passing behind visit enter spare finishing cart step (to .most)
+        value-most = least-most sheet rears behind visit enter spare finishing cart step (to .most)
 
-        stored : (G : Given) → PassingIs passing G → (d q : ℕ) → q < steps X d → Dec (8 * d + q ≡ 8 * cart + step)
+        stored : (G : Given) → PassingIs (parts.passing sheet) G → (d q : ℕ) → q < steps X d → Dec (8 * d + q ≡ 8 * cart + step)
             → timesOf (set spare (8 * cart + step) value) d q ≡ back G i d q
         stored G given d q h (no n) =
             getD-set-other spare (8 * cart + step) (8 * d + q) value 0 n
             ∙ back-other G given d q h (λ (dc, qs). n (omega (arith, dc, qs)))
         stored G given d q h (yes same) =
             let few = ready .tables .routed .routes .few d in
-            let l = behind-below stepTable zoneTable behind d q h in
-            let all = behind-steps stepTable zoneTable behind d l in
+            let l = behind-below sheet behind d q h in
+            let all = behind-steps sheet behind d l in
             let dc : d ≡ cart = omega (arith, eight) in
             let qs : q ≡ step = omega (arith, eight) in
             ap (λ (x : ℕ). getD (set spare (8 * cart + step) value) x 0) same
             ∙ getD-set-same spare (8 * cart + step) value 0 place-below
-            ∙ rule-is stepTable zoneTable passing behind visit enter finishing (ready .tables) G given spare (later G given) (holds-later G given)
+            ∙ rule-is sheet rears behind visit enter finishing (ready .tables) G given spare (later G given) (holds-later G given)
             cart step (omega (arith, counted))
             ∙ sym (put-same (later G given) cart step (rule G (later G given) cart step))
             ∙ sym (back-put G given cart step)

@@ -1,4 +1,4 @@
--- The least over a test: its bounds, and over a set the lowest member taken first, and then the rest.
+-- The least over a test: its bounds, where none or one passes, and over a set the lowest member taken first, and then the rest.
 use Prim.Native.Nat.{ℕ, zero, suc, _≤_, _<_, min}
 use mathlib.Core.Path.{_≡_, refl, sym, ap, _∙_}
 use mathlib.Core.Bool.{Bool, true, false, not, _&&_, and-true, and-false, false≢true}
@@ -47,6 +47,18 @@ module _ (test : ℕ → Bool) (rule : ℕ → ℕ) (least : ℕ) where
       go true e below = omega (arith, all n (omega arith) e)
       go false e below = below
 
+  pub least-empty : (n : ℕ) → ((d : ℕ) → d < n → test d ≡ true → ⊥) → leastOf test rule least n ≡ least
+  least-empty n none = omega (arith, least-base n, least-bound n least (le-refl least) (λ d l t. absurd (none d l t)))
+
+  pub least-one : (n d : ℕ) → d < n → test d ≡ true → ((e : ℕ) → e < n → test e ≡ true → e ≡ d) → leastOf test rule least n ≡ min least (rule d)
+  least-one n d l t only =
+      omega (
+        arith,
+        least-base n,
+        least-member n d l t,
+        least-bound n (min least (rule d)) (omega arith) (λ e m s. rw (only e m s) (omega arith)),
+      )
+
 -- only the numbers that pass count
 pub least-same : (test other : ℕ → Bool) (rule more : ℕ → ℕ) (least : ℕ) (n : ℕ) → ((d : ℕ) → d < n → test d ≡ other d)
     → ((d : ℕ) → d < n → other d ≡ true → rule d ≡ more d) → leastOf test rule least n ≡ leastOf other more least n
@@ -68,12 +80,7 @@ module _ (rule : ℕ → ℕ) where
   pub least-none : (members least : ℕ) → members ≤ 0 → leastOf (has members) rule least 16 ≡ least
   least-none members least none =
       let empty : members ≡ 0 = omega arith in
-      omega (
-        arith,
-        least-base (has members) rule least 16,
-        least-bound (has members) rule least 16 least (le-refl least)
-            (λ d _ t. absurd (false≢true (sym (has-none d) ∙ rw empty at t))),
-      )
+      least-empty (has members) rule least 16 (λ d _ t. false≢true (sym (has-none d) ∙ rw empty at t))
 
   pub least-turn : (members rest d least : ℕ) → d < 16 → Lowest members d → Rest members rest
       → leastOf (has members) rule least 16 ≡ leastOf (has rest) rule (min least (rule d)) 16

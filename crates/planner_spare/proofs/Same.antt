@@ -1,16 +1,17 @@
--- Orders that agree for the carts that visit a zone give one spare time.
-use Prim.Native.Nat.{ℕ}
-use mathlib.Core.Path.{_≡_, refl, ap, fun-ext}
-use mathlib.Core.Bool.{Bool, true, false}
+-- Orders that agree for the carts that visit a zone, and fronts that agree for the carts that are there, give one spare time.
+use Prim.Native.Nat.{ℕ, _<_}
+use mathlib.Core.Path.{_≡_, refl, ap, fun-ext, _∙_}
+use mathlib.Core.Bool.{Bool, true, false, _&&_}
 use mathlib.Core.List.{List, []}
 use lib.ListN.{length, getD}
-use lib.Dec.{ltb}
+use lib.Dec.{ltb, eqb}
 use borrow.Author.Tests.{ltb-true}
 use Rattle.moves.specs.System.{start}
 use Rattle.routes.specs.inner.Lists.{Named}
 use Rattle.routes.specs.Crossing.{Crossing, steps, zone, stepIn}
-use Rattle.routes.specs.Moves.{system}
+use Rattle.routes.specs.Moves.{isInLine, system}
 use Rattle.times.specs.Times.{Given, finish}
+use Rattle.times.proofs.SameOrders.{front-same}
 use Rattle.removal.specs.Spare.{workedBack, leastOf, alone, spareRule, spareTime}
 use Rattle.planner_spare.proofs.Least.{least-same}
 
@@ -18,13 +19,14 @@ use Rattle.planner_spare.proofs.Least.{least-same}
 abbrev stepOnly : Bool → ℕ → ℕ
 stepOnly b number = elim b [ true ↦ number | false ↦ 0 ]
 
-module _ (routes : List (List ℕ)) (before other : ℕ → ℕ → ℕ → Bool)
+module _ (routes : List (List ℕ)) (front front′ : ℕ → ℕ) (before other : ℕ → ℕ → ℕ → Bool)
+    (fronts : (c : ℕ) → 0 < length (getD routes c []) → front c ≡ front′ c)
     (agree : (z c d : ℕ) → Named (getD routes c []) z → before z c d ≡ other z c d) where
   abbrev X : Crossing
-  X = record { routes = routes; before = before }
+  X = record { routes = routes; front = front; before = before }
 
   abbrev Y : Crossing
-  Y = record { routes = routes; before = other }
+  Y = record { routes = routes; front = front′; before = other }
 
   module _ (G : Given) (t : ℕ → ℕ → ℕ) (finishing : ℕ) where
     rule-same : (u : ℕ → ℕ → ℕ) (c j : ℕ) → spareRule X G t finishing u c j ≡ spareRule Y G t finishing u c j
@@ -34,12 +36,20 @@ module _ (routes : List (List ℕ)) (before other : ℕ → ℕ → ℕ → Bool
         z : ℕ
         z = zone X c j
 
-        least : (ℕ → Bool) → ℕ
-        least test = leastOf test (λ d. u d (stepIn X d z)) (alone X G t finishing u c j) (length routes)
+        in-line : (d : ℕ) → isInLine X d j c ≡ isInLine Y d j c
+        in-line d = ap (λ (b : Bool). eqb j 0 && b) (front-same routes front front′ other other fronts (λ _ _ _ _. refl) c d)
+
+        line : (ℕ → Bool) → ℕ
+        line test = leastOf test (λ d. u d 0) (alone X G t finishing u c j) (length routes)
+
+        least : (ℕ → Bool) → ℕ → ℕ
+        least test number = leastOf test (λ d. u d (stepIn X d z)) number (length routes)
 
         go : (b : Bool) → ltb j (steps X c) ≡ b
-            → stepOnly b (least (before z c)) ≡ stepOnly b (least (other z c))
-        go true e = least-same _ _ _ _ _ (length routes) (λ d _. agree z c d (j, ltb-true j (steps X c) e, refl)) (λ d _ _. refl)
+            → stepOnly b (least (before z c) (line (λ d. isInLine X d j c))) ≡ stepOnly b (least (other z c) (line (λ d. isInLine Y d j c)))
+        go true e =
+            ap (least (before z c)) (least-same _ _ _ _ _ (length routes) (λ d _. in-line d) (λ d _ _. refl))
+            ∙ least-same _ _ _ _ _ (length routes) (λ d _. agree z c d (j, ltb-true j (steps X c) e, refl)) (λ d _ _. refl)
         go false e = refl
 
   pub spare-same : (G : Given) (run : List ℕ) (t : ℕ → ℕ → ℕ) → spareTime X G run t ≡ spareTime Y G run t

@@ -21,9 +21,10 @@ use Rattle.routes.proofs.Places.{named-says}
 use Rattle.times.specs.Times.{Given, largest, finish}
 use Rattle.times.proofs.Rules.{times-keep}
 use Rattle.times.proofs.Largest.{largest-most}
-use Rattle.crossing.specs.inner.Tables.{crossingBy, crossingOf, givenOf}
+use Rattle.crossing.specs.inner.Tables.{frontsOf, crossingBy, crossingOf, givenOf}
 use Rattle.crossing.specs.Plans.{givenBy}
 use Rattle.judge_entering.specs.Times.{timesOf}
+use Rattle.judge_entering.specs.inner.Times.{AtMost}
 use Rattle.judge_running.proofs.Verdict.{settled-times}
 use Rattle.judge_finish.specs.inner.Finish.{lastAt, lastLeaving, Leavable}
 use Rattle.judge_finish.proofs.Finish.{finish-is}
@@ -40,6 +41,7 @@ use Rattle.removal.proofs.Turns.{onTaken}
 use Rattle.planner_orders.specs.inner.Unplanned.{unplannedOf}
 use Rattle.planner_orders.specs.inner.Holds.{Holds}
 use Rattle.planner_orders.proofs.Settled.{goes-visits, present-system, present-times}
+use Rattle.planner_spare.specs.inner.Rears.{rearsOf}
 use Rattle.planner_spare.specs.inner.Behind.{crossingBehind}
 use Rattle.planner_spare.specs.inner.Runs.{SpareReady, SpareTimes}
 use Rattle.planner_spare.proofs.Told.{spare-told}
@@ -90,23 +92,27 @@ module _ (sheet ranks pairs visit ahead behind undecided enter order : List ℕ)
         enter-most = runs .settled .enter-most;
       }
 
-      behind-visits : (c j d : ℕ) → j < steps (crossingBehind (parts.steps sheet) (parts.zone sheet) behind) c → has (getD behind (8 * c + j) 0) d ≡ true
-          → Visits (crossingBehind (parts.steps sheet) (parts.zone sheet) behind) d (zone (crossingBehind (parts.steps sheet) (parts.zone sheet) behind) c j)
+      behind-visits : (c j d : ℕ) → j < steps (crossingBehind sheet behind) c → has (getD behind (8 * c + j) 0) d ≡ true
+          → Visits (crossingBehind sheet behind) d (zone (crossingBehind sheet behind) c j)
       unfolding crossingBehind
       behind-visits c j d h is =
           named-says (getD (U .routes) d []) _ .0 (goes-visits U low high decided _ c d (sym (holds .at-step c j h .behind-is d) ∙ is) .1)
 
-      ready : (finishing : ℕ) → finishing ≡ largest (lastLeaving (parts.steps sheet) (parts.passing sheet) enter) 16
-          → SpareReady (parts.steps sheet) (parts.zone sheet) (parts.passing sheet) behind visit enter order (run .made) finishing (replicate 128 0)
-      ready finishing is =
-          settled-ready (parts.steps sheet) (parts.zone sheet) ahead (parts.passing sheet) behind visit G (run .at) (run .left) enter order
-          (run .made) finishing (runs .settled) out (told .routed)
-          (told .places) (told .passing-most) is behind-visits
+      ready : (rears : List ℕ) → rears ≡ rearsOf sheet → (finishing : ℕ) → finishing ≡ largest (lastLeaving (parts.steps sheet) (parts.passing sheet) enter) 16
+          → SpareReady sheet rears behind visit enter order (run .made) finishing (replicate 128 0)
+      ready rears rears-are finishing is =
+          settled-ready sheet rears ahead behind visit G (run .at) (run .left) enter order (run .made) finishing (runs .settled) out (told .routed)
+          (told .places) (told .passing-most) is behind-visits rears-are
+
+      lanes-most : AtMost 15 (parts.lane sheet)
+      unfolding givenBy
+      lanes-most = told-sound sheet ranks pairs visit ahead behind undecided U told low high decided holds .ranged .lane-most
 
       finish-told : largest (lastLeaving (parts.steps sheet) (parts.passing sheet) enter) 16 ≡ finish X G (timesOf enter)
       finish-told =
           let sound = told-sound sheet ranks pairs visit ahead behind undecided U told low high decided holds in
-          finish-is (parts.steps sheet) (parts.zone sheet) ahead (parts.lane sheet) (parts.arrival sheet) (parts.passing sheet) (parts.travel sheet)
+          finish-is (parts.steps sheet) (parts.zone sheet) (frontsOf sheet) ahead (parts.lane sheet) (parts.arrival sheet) (parts.passing sheet)
+          (parts.travel sheet)
           (parts.follow sheet) (parts.cross sheet) enter
           (times-keep X G (sound .only) (timesOf enter) (settled-times X G (run .at) (run .left) enter order (run .made) (runs .settled) out))
 
@@ -120,7 +126,7 @@ module _ (sheet ranks pairs visit ahead behind undecided enter order : List ℕ)
           one false c = omega (arith, runs .settled .enter-most (lastAt (parts.steps sheet) c), told .passing-most (lastAt (parts.steps sheet) c))
 
       module _ (finishing : ℕ) (spare : List ℕ) (is : finishing ≡ largest (lastLeaving (parts.steps sheet) (parts.passing sheet) enter) 16)
-          (spares : SpareTimes (parts.steps sheet) (parts.zone sheet) (parts.passing sheet) behind enter order (run .made) finishing spare) where
+          (spares : SpareTimes sheet behind enter order (run .made) finishing spare) where
         abbrev T : Tables
         T = tablesOf (parts.zone sheet) (parts.cross sheet) (parts.passing sheet) ranks visit undecided enter spare
 
@@ -162,8 +168,8 @@ module _ (sheet ranks pairs visit ahead behind undecided enter order : List ℕ)
         spares-same c j h =
             spare-time-same Z G (told .sheet-sized .able .once) (present-both U low high decided) (allMade Z all-out) run-made time (timesOf enter)
             times-same c j h
-            ∙ sym (spare-told (parts.steps sheet) (parts.zone sheet) behind (Z .before) (told .routed) (λ c j d h. holds .at-step c j h .behind-is d)
-            (parts.passing sheet) enter order (run .made) finishing spare
+            ∙ sym (spare-told sheet behind (Z .before) (told .routed) (λ c j d h. holds .at-step c j h .behind-is d)
+            enter order (run .made) finishing spare
             spares G (λ c j. refl) finish-same c j h)
 
         turn-told : turn U low high decided ≡ onTaken U low high decided (largestCost U time (spareTime Z G (movesMade Z) time) (candidates U low high decided))
@@ -198,13 +204,18 @@ module _ (sheet ranks pairs visit ahead behind undecided enter order : List ℕ)
   pub trial-leavable : Underway sheet ranks pairs visit ahead behind undecided → Leavable (parts.steps sheet) (parts.passing sheet) enter
   trial-leavable = of-trial _ leavable
 
-  pub trial-ready : (finishing : ℕ) → finishing ≡ largest (lastLeaving (parts.steps sheet) (parts.passing sheet) enter) 16
+  pub trial-lanes : Underway sheet ranks pairs visit ahead behind undecided → AtMost 15 (parts.lane sheet)
+  trial-lanes = of-trial _ lanes-most
+
+  pub trial-ready : (rears : List ℕ) → rears ≡ rearsOf sheet → (finishing : ℕ) → finishing ≡ largest
+      (lastLeaving (parts.steps sheet) (parts.passing sheet) enter) 16
       → Underway sheet ranks pairs visit ahead behind undecided
-      → SpareReady (parts.steps sheet) (parts.zone sheet) (parts.passing sheet) behind visit enter order (run .made) finishing (replicate 128 0)
-  trial-ready finishing is = of-trial _ (λ zones carts told low high decided holds. ready zones carts told low high decided holds finishing is)
+      → SpareReady sheet rears behind visit enter order (run .made) finishing (replicate 128 0)
+  trial-ready rears rears-are finishing is =
+      of-trial _ (λ zones carts told low high decided holds. ready zones carts told low high decided holds rears rears-are finishing is)
 
   pub trial-range : (finishing : ℕ) (spare : List ℕ) → finishing ≡ largest (lastLeaving (parts.steps sheet) (parts.passing sheet) enter) 16
-      → SpareTimes (parts.steps sheet) (parts.zone sheet) (parts.passing sheet) behind enter order (run .made) finishing spare
+      → SpareTimes sheet behind enter order (run .made) finishing spare
       → Underway sheet ranks pairs visit ahead behind undecided
       → InRange (tablesOf (parts.zone sheet) (parts.cross sheet) (parts.passing sheet) ranks visit undecided enter spare)
   trial-range finishing spare is spares = of-trial _ (λ zones carts told low high decided holds. in-range zones carts told low high decided holds
@@ -212,7 +223,7 @@ module _ (sheet ranks pairs visit ahead behind undecided enter order : List ℕ)
 
 module _ (sheet ranks visit behind undecided enter order : List ℕ) (run : Verdict) (finishing : ℕ) (spare : List ℕ)
     (is : finishing ≡ largest (lastLeaving (parts.steps sheet) (parts.passing sheet) enter) 16)
-    (spares : SpareTimes (parts.steps sheet) (parts.zone sheet) (parts.passing sheet) behind enter order (run .made) finishing spare) where
+    (spares : SpareTimes sheet behind enter order (run .made) finishing spare) where
   pub chosen-told : (choice : Choice) → ChosenBelow (tablesOf (parts.zone sheet) (parts.cross sheet) (parts.passing sheet) ranks visit undecided
       enter spare) 128 choice
       → Chosen sheet ranks visit behind undecided enter order run choice

@@ -14,7 +14,7 @@ use Rattle.sets.proofs.Laws.{has-none}
 use Rattle.moves.specs.System.{System}
 use Rattle.routes.specs.Crossing.{steps, zone}
 use Rattle.times.specs.Times.{Given}
-use Rattle.crossing.specs.inner.Tables.{crossingBy, crossingOf, givenOf}
+use Rattle.crossing.specs.inner.Tables.{frontsOf, crossingBy, crossingOf, givenOf}
 use Rattle.crossing.specs.Plans.{givenBy}
 use Rattle.crossing.specs.inner.Sound.{Sound}
 use Rattle.crossing.proofs.Tables.{step-below, steps-is, zone-is}
@@ -57,11 +57,11 @@ module _ (sheet ranks pairs visit : List ℕ) where
   unfolding crossingBy
   step-is =
       on-tables (λ U. (c j : ℕ) → j < steps (unordered U) c → StepIs U c j) λ _ _ c j h.
-      let l = step-below (parts.steps sheet) (parts.zone sheet) [] c j h in
+      let l = step-below (parts.steps sheet) (parts.zone sheet) (frontsOf sheet) [] c j h in
       record {
         cart = l;
-        in-table = omega (arith, steps-is (parts.steps sheet) (parts.zone sheet) [] c l);
-        zone-at = sym (zone-is (parts.steps sheet) (parts.zone sheet) [] c l j h);
+        in-table = omega (arith, steps-is (parts.steps sheet) (parts.zone sheet) (frontsOf sheet) [] c l);
+        zone-at = sym (zone-is (parts.steps sheet) (parts.zone sheet) (frontsOf sheet) [] c l j h);
       }
 
   pub tabled : (U : Unplanned) → IsTold U → Tabled U (parts.zone sheet) (parts.cross sheet) (parts.passing sheet) ranks visit

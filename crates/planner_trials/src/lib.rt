@@ -7,14 +7,18 @@ use planner_costs::largest_cost;
 use planner_groups::open_group;
 use planner_orders::decide;
 use planner_orders::turn_round;
+use planner_spare::rears;
 use planner_spare::spare_times;
 use sheet_table::Table;
+ghost use mathlib.Core.Path.{_≡_};
+ghost use Rattle.planner_spare.specs.inner.Rears.{rearsOf};
 ghost use Rattle.planner_trials.specs.inner.Trying.{Triable, Tries};
 ghost use Rattle.planner_trials.specs.inner.Turns.{Choosable, Chosen, Decidable, Decided, OnTrial, AllTried, OpenedTried};
 
 // The order of largest cost among the undecided pairs, by the times of the run.
 fn choose(
     sheet: &Table,
+    rears: &[u8; 16],
     ranks: &[u8; 16],
     visit: &[u8; 384],
     behind: &[u16; 128],
@@ -23,7 +27,8 @@ fn choose(
     order: &[u8; 144],
     run: Verdict,
 ) -> Choice
-    requires { ⌜ Choosable (now sheet) (now ranks) (now visit) (now behind) (now undecided) (now enter) (now order) run ⌝ }
+    requires { ⌜ Choosable (now sheet) (now ranks) (now visit) (now behind) (now undecided) (now enter) (now order) run
+        × (now rears ≡ rearsOf (now sheet)) ⌝ }
     ensures { λ r.
         ⌜ Chosen (now (sheet .entry)) (now (ranks .entry)) (now (visit .entry)) (now (behind .entry)) (now (undecided .entry))
         (now (enter .entry)) (now (order .entry)) run r ⌝ }
@@ -31,7 +36,17 @@ fn choose(
     let made = run.made;
     let finish = finish_of(sheet, enter);
     let mut spare = [0u32; 128];
-    spare_times(sheet, behind, visit, enter, order, made, finish, &mut spare);
+    spare_times(
+        sheet,
+        rears,
+        behind,
+        visit,
+        enter,
+        order,
+        made,
+        finish,
+        &mut spare,
+    );
     largest_cost(sheet, ranks, visit, undecided, enter, &spare)
 }
 
@@ -79,9 +94,20 @@ fn try_pairs(
         ⌜ AllTried (now (sheet .entry)) (now (ranks .entry)) (now (visit .entry)) (now (ahead .entry)) (now (behind .entry))
         (now (undecided .entry)) (now (ahead .exit)) (now (behind .exit)) (now (undecided .exit)) r ⌝ }
 {
+    let rears = rears(sheet);
     let mut run = first;
     while run.out {
-        let choice = choose(sheet, ranks, visit, behind, undecided, enter, order, run);
+        let choice = choose(
+            sheet,
+            &rears,
+            ranks,
+            visit,
+            behind,
+            undecided,
+            enter,
+            order,
+            run,
+        );
         if !choice.found {
             return true;
         }

@@ -16,16 +16,16 @@ use Rattle.crossing.proofs.Tables.{step-below, steps-is, zone-is}
 use Rattle.planner_visiting.specs.inner.Visiting.{Places}
 
 module _ (stepTable zoneTable visit : List ℕ) (places : Places stepTable zoneTable visit) where
-  -- a crossing with these routes, whatever its orders
+  -- a crossing with these routes, whatever its lanes and orders
   abbrev X : Crossing
-  X = crossingBy stepTable zoneTable []
+  X = crossingBy stepTable zoneTable [] []
 
   step-place : (c z : ℕ) → Visits X c z → getD visit (16 * z + c) 0 ≡ 8 * c + stepIn X c z
   step-place c z v =
       let h : stepIn X c z < steps X c = place-below (route X c) z v in
-      let l : c < 16 = step-below stepTable zoneTable [] c (stepIn X c z) h in
-      let there : getD zoneTable (8 * c + stepIn X c z) 0 ≡ z = sym (zone-is stepTable zoneTable [] c l (stepIn X c z) h) ∙ place-names (route X c) z v in
-      ap (λ (y : ℕ). getD visit (16 * y + c) 0) (sym there) ∙ places .step-at c (stepIn X c z) l (omega (arith, steps-is stepTable zoneTable [] c l))
+      let l : c < 16 = step-below stepTable zoneTable [] [] c (stepIn X c z) h in
+      let there : getD zoneTable (8 * c + stepIn X c z) 0 ≡ z = sym (zone-is stepTable zoneTable [] [] c l (stepIn X c z) h) ∙ place-names (route X c) z v in
+      ap (λ (y : ℕ). getD visit (16 * y + c) 0) (sym there) ∙ places .step-at c (stepIn X c z) l (omega (arith, steps-is stepTable zoneTable [] [] c l))
 
   pub visit-place : (c z : ℕ) → Named (getD (entries 16 0 (routeOf stepTable zoneTable)) c []) z
       → getD visit (16 * z + c) 0 ≡ 8 * c + placeOf (getD (entries 16 0 (routeOf stepTable zoneTable)) c []) z

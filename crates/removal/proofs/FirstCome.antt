@@ -13,6 +13,7 @@ use Rattle.removal.specs.inner.Plannable.{Plannable}
 use Rattle.removal.specs.inner.Passable.{Passable}
 use Rattle.removal.specs.FirstCome.{firstCome}
 use Rattle.removal.proofs.Ranks.{Comes, comes-says, comes-trans, comes-never, comes-one, rank-rises, lane-comes}
+use Rattle.removal.proofs.Lanes.{lanes-up}
 use Rattle.removal.proofs.Pairs.{Visiting, visits-says}
 
 module _ (U : Unplanned) (able : Plannable U) where
@@ -29,7 +30,8 @@ module _ (U : Unplanned) (able : Plannable U) where
 
   -- "the plain rule is accepted for every valid sheet"
   pub first-out : isOut (firstCome U) ≡ true
-  first-out = out-says (firstCome U) .1 (rank-out (firstCome U) first-only (rank U) rises)
+  unfolding firstCome
+  first-out = out-says (firstCome U) .1 (rank-out (firstCome U) first-only (rank U) rises (lanes-up U able (firstCome U .before)))
     where
       rises : (z d c : ℕ) → firstCome U .before z d c ≡ true → rank U d < rank U c
       rises z d c b = let ((v, _), comes) = first-says z d c .0 b in rank-rises U d c (able .cart-below d z v) comes
@@ -54,4 +56,4 @@ module _ (U : Unplanned) (able : Plannable U) where
 
   pub first-passable : Passable U (firstCome U)
   unfolding firstCome
-  first-passable = record { routed = refl; both = first-both; strict = first-strict; in-lane = first-lane; comes-out = first-out }
+  first-passable = record { routed = refl; fronted = refl; both = first-both; strict = first-strict; in-lane = first-lane; comes-out = first-out }

@@ -76,7 +76,8 @@ pub struct Ring {
 }
 
 impl Ring {
-    /// The ring's carts, begun at the lowest: each waits for the next, the last for the first.
+    /// The ring's carts, begun at the lowest: each waits for the next, the last for the first. A cart on the lane waits for
+    /// the one in front while that has not moved, otherwise each for the first of its zone's list that has not left it.
     pub fn carts(&self) -> &[u8] {
         &self.cart[..self.length]
     }
@@ -166,7 +167,8 @@ pub struct Moved {
 #[cfg(feature = "controller")]
 #[derive(Clone, Copy, Debug, PartialEq, Eq)]
 pub enum NotMoved {
-    /// The cart is held, 26 at 0: so many carts ahead have not left the zone that it wants.
+    /// The cart is held, 26 at 0: so many carts ahead have not left the zone that it wants, and one more if it is to leave
+    /// the lane and the cart in front has not.
     Held(u32),
     /// Another check fails.
     Refused(Refusal),
@@ -337,7 +339,7 @@ pub fn ask(sheet: &[u8], plan: &[u8], record: Record, cart: usize) -> Result<Mov
 }
 
 /// To be called before a cart rolls. If its next move is permitted, the cart's new position and the new number of moves,
-/// both stored in the record; or 1 to 26, and the record is unchanged.
+/// both stored in the record; or 1 to 26, and the record is unchanged. A lane is left in the order of its carts' numbers.
 #[cfg(feature = "controller")]
 pub fn move_cart(
     sheet: &[u8],

@@ -103,9 +103,14 @@ fn record(first: u8, second: u8, made: u32) -> Record {
 }
 
 /// What is answered, which asking by value must answer too; and what the record then holds.
-fn requested(plan: &[u8], mut record: Record, cart: usize) -> (Result<Moved, NotMoved>, Record) {
-    let asked = ask(S, plan, record, cart);
-    let answer = move_cart(S, plan, &mut record, cart);
+fn requested(
+    sheet: &[u8],
+    plan: &[u8],
+    mut record: Record,
+    cart: usize,
+) -> (Result<Moved, NotMoved>, Record) {
+    let asked = ask(sheet, plan, record, cart);
+    let answer = move_cart(sheet, plan, &mut record, cart);
     assert_eq!(answer, asked);
     (answer, record)
 }
@@ -113,7 +118,7 @@ fn requested(plan: &[u8], mut record: Record, cart: usize) -> (Result<Moved, Not
 #[test]
 fn a_permitted_move_is_stored() {
     assert_eq!(
-        requested(A, record(3, 0, 3), 1),
+        requested(S, A, record(3, 0, 3), 1),
         (
             Ok(Moved {
                 position: 1,
@@ -136,7 +141,29 @@ fn a_refused_request_leaves_the_record_as_it_was() {
         (A, record(3, 3, 6), 2, refused(24)),
         (A, record(3, 3, 6), usize::MAX, refused(24)),
     ] {
-        assert_eq!(requested(plan, lent, cart), (Err(expected), lent));
+        assert_eq!(requested(S, plan, lent, cart), (Err(expected), lent));
     }
     assert_eq!(NotMoved::Held(1).to_string(), "refused 26 at 0");
+}
+
+#[test]
+fn a_lane_is_left_in_the_order_of_its_carts() {
+    // carts 0 and 1 of lane 0, each with a zone of its own
+    let sheet = b"\x01\x00\x23\x02\0\0\0\0\0\0\0\0\x02\
+        \0\0\0\0\0\x01\x00\x03\xE8\0\0\
+        \0\0\0\0\0\x01\x01\x03\xE8\0\0";
+    let plan = b"\x01\x00\x08\x02\x01\x00\x01\x01";
+    let moved = |made| Ok(Moved { position: 1, made });
+    let unreached = NotMoved::Refused(Refusal {
+        number: 23,
+        place: 0,
+    });
+    for (lent, cart, expected, after) in [
+        (record(0, 0, 0), 1, Err(NotMoved::Held(1)), record(0, 0, 0)),
+        (record(0, 0, 0), 0, moved(1), record(1, 0, 1)),
+        (record(1, 0, 1), 1, moved(2), record(1, 1, 2)),
+        (record(0, 1, 1), 0, Err(unreached), record(0, 1, 1)),
+    ] {
+        assert_eq!(requested(sheet, plan, lent, cart), (expected, after));
+    }
 }

@@ -14,34 +14,27 @@ mul-less c = search needs
 element-copy-out-less : tie.Need-element-copy-out-less
 element-copy-out-less c = search needs
 
-mul-less-2 : tie.Need-mul-less-2
-mul-less-2 c = search needs
-
-element-copy-out-less-2 : tie.Need-element-copy-out-less-2
-element-copy-out-less-2 c = search needs
-
 less-requires : tie.Need-less-requires
 less-requires c κs = search needs
 
 follow-requires : tie.Need-follow-requires
 follow-requires c κs = search needs
 
-mul-less-3 : tie.Need-mul-less-3
-mul-less-3 c = search needs
+mul-less-2 : tie.Need-mul-less-2
+mul-less-2 c = search needs
 
-element-copy-out-less-3 : tie.Need-element-copy-out-less-3
-element-copy-out-less-3 c = search needs
+element-copy-out-less-2 : tie.Need-element-copy-out-less-2
+element-copy-out-less-2 c = search needs
 
 less-requires-2 : tie.Need-less-requires-2
 less-requires-2 c κs = search needs
 
 latest-clear-requires : tie.Need-latest-clear-requires
 latest-clear-requires c κs = (
-  rw (c .before .before .before .before .before .before .zone .ensures)
-      (c .before .before .before .before .before .before .before .pre .zone-24),
-  rw (c .before .before .follow .ensures)
-      (c .before .before .before .before .before .before .before .pre .follow-most _),
-  c .before .before .before .before .before .before .before .pre .leave-most,
+  rw (c .before .before .before .before .before .zone .ensures) (c .before .before .before .before .before .before .pre .zone-24),
+  rw
+      (c .before .before .follow .ensures) (c .before .before .before .before .before .before .pre .follow-most _),
+  c .before .before .before .before .before .before .pre .leave-most,
 )
 
 cross-requires : tie.Need-cross-requires
@@ -49,11 +42,11 @@ cross-requires c κs = search needs
 
 latest-clear-requires-2 : tie.Need-latest-clear-requires-2
 latest-clear-requires-2 c κs = (
-  rw (c .before .before .before .before .before .before .before .before .zone .ensures)
-      (c .before .before .before .before .before .before .before .before .before .pre .zone-24),
+  rw (c .before .before .before .before .before .before .before .zone .ensures)
+      (c .before .before .before .before .before .before .before .before .pre .zone-24),
   rw (c .cross .ensures)
-      (c .before .before .before .before .before .before .before .before .before .pre .cross-most _),
-  c .before .before .before .before .before .before .before .before .before .pre .leave-most,
+      (c .before .before .before .before .before .before .before .before .pre .cross-most _),
+  c .before .before .before .before .before .before .before .before .pre .leave-most,
 )
 
 mul-enter : tie.Need-mul-enter
@@ -64,10 +57,9 @@ element-write-enter c = search needs
 
 returns : tie.Need-returns
 returns c = (
-  latest-parts _ _ _ _ _ (c .before .before .before .before .before .before .before .before .before .before .pre) _ _ _ _ _ _ _ _ _
-      (c .before .before .before .before .before .before .before .before .before .zone .ensures)
-      (c .before .before .before .before .before .follow .ensures) (c .before .cross .ensures)
-      (c .before .before .before .before .before .before .less .ensures) (c .before .before .before .less2 .ensures)
+  latest-parts _ _ _ _ _ (c .before .before .before .before .before .before .before .before .before .pre) _ _ _ _ _ _ _ _ _
+      (c .before .before .before .before .before .before .before .before .zone .ensures) (c .before .before .before .before .before .follow .ensures)
+      (c .before .cross .ensures) (c .before .before .before .before .before .before .less .ensures) (c .before .before .before .less2 .ensures)
       (c .before .before .latest-clear .ensures) (c .latest-clear2 .ensures),
   refl,
 )
@@ -79,12 +71,10 @@ enter-zone-spec =
     zone-requires
     mul-less
     element-copy-out-less
-    mul-less-2
-    element-copy-out-less-2
     less-requires
     follow-requires
-    mul-less-3
-    element-copy-out-less-3
+    mul-less-2
+    element-copy-out-less-2
     less-requires-2
     latest-clear-requires
     cross-requires

@@ -10,7 +10,7 @@ use Rattle.sets.specs.inner.Member.{has}
 use Rattle.times.specs.Times.{largest, gap}
 use Rattle.sheet_table.specs.inner.Parts.{follow, cross, lane, zone}
 use Rattle.crossing.specs.inner.Tables.{givenOf}
-use Rattle.judge_entering.specs.inner.Lanes.{lanesOf}
+use Rattle.judge_entering.specs.inner.Lanes.{matesOf}
 
 -- "that cart's leaving time plus the zone's gap"; the leaving time of cart d from zone z stands at 16 * z + d
 abbrev pub clearBy : List ℕ → ℕ → ℕ → ℕ → ℕ
@@ -29,11 +29,11 @@ abbrev pub AtMost : ℕ → List ℕ → Type 0
 AtMost most table = (x : ℕ) → getD table x 0 ≤ most
 
 -- what entering the zone of cart c's step at x asks of the tables
-pub record Enterable (sheet same leave : List ℕ) (x c : ℕ) : Type 0 where
+pub record Enterable (sheet : List ℕ) (mates : ℕ) (leave : List ℕ) (x c : ℕ) : Type 0 where
   pub step-128 : x < 128
   pub cart-16 : c < 16
   pub zone-24 : getD (zone sheet) x 0 < 24
-  pub same-is : same ≡ lanesOf (lane sheet)
+  pub mates-are : mates ≡ matesOf sheet c
   pub follow-most : AtMost mostTime (follow sheet)
   pub cross-most : AtMost mostTime (cross sheet)
   pub leave-most : AtMost latestLeaving leave

@@ -2,33 +2,26 @@
 use Prim.Native.Nat.{_-_, _≤_}
 use mathlib.Core.Path.{_≡_}
 use native.Mathlib.Omega.{arith}
-use lib.ListN.{getD}
 use Rattle.words.specs.Lists.{table}
 use Rattle.words.proofs.Filling.{table-none, table-next}
-use Rattle.judge_ring.specs.inner.Tables.{firstNotLeft}
+use Rattle.judge_ring.specs.inner.Tables.{pointOf}
 use Rattle.judge_ring.proofs.Below.{Below, below-next, filled-below}
 use borrow.Author.Needs.{needs}
 use Rattle.judge_ring.proofs.pointing.Statement.{statement}
 use Rattle.judge_ring.proofs.pointing.Tie as tie
 
 abbrev Inv-loop : tie.InvT-loop
-Inv-loop count list left wanted to₀ c₀ to c = (c ≤ 16) × (to ≡ table 16 c (λ d. firstNotLeft count list left (getD wanted d 0))) × Below
-    (λ d. firstNotLeft count list left (getD wanted d 0)) 16 c
+Inv-loop sheet lanes count list at left to₀ c₀ to c =
+    (c ≤ 16) × (to ≡ table 16 c (pointOf sheet count list at left)) × Below (pointOf sheet count list at left) 16 c
 
 abbrev μ-loop : tie.MeasureT-loop
-μ-loop count list left wanted to₀ c₀ to c = 16 - c
+μ-loop sheet lanes count list at left to₀ c₀ to c = 16 - c
 
 loop-holds : tie.Need-loop-holds Inv-loop μ-loop
 loop-holds c = (omega arith, table-none 16 _, λ x h. absurd (omega arith))
 
-element-copy-out-first-not-left : tie.Need-element-copy-out-first-not-left Inv-loop μ-loop
-element-copy-out-first-not-left c = search needs
-
-cast-first-not-left : tie.Need-cast-first-not-left Inv-loop μ-loop
-cast-first-not-left c = omega (arith, c .before .before .before .pre .1 (c .before .before .loop .c))
-
-first-not-left-requires : tie.Need-first-not-left-requires Inv-loop μ-loop
-first-not-left-requires c κs = (c .before .before .before .pre .1 _, c .before .before .before .pre .0 _ (c .before .before .before .pre .1 _))
+points-to-requires : tie.Need-points-to-requires Inv-loop μ-loop
+points-to-requires c κs = (c .before .before .pre, c .loop-test .taken)
 
 cast-to : tie.Need-cast-to Inv-loop μ-loop
 cast-to c = search needs
@@ -44,11 +37,11 @@ loop-less c = search needs
 
 loop-again : tie.Need-loop-again Inv-loop μ-loop
 loop-again c = (
-  omega (arith, c .before .before .loop-test .taken),
-  table-next 16 _ _ _ _ (c .before .before .loop-test .taken)
-      (c .first-not-left .ensures .0) (c .before .before .before .loop .inv .1),
-  below-next _ 16 _ (c .before .before .before .loop .inv .2)
-      (rw (c .first-not-left .ensures .0) at (c .first-not-left .ensures .1)),
+  omega (arith, c .before .loop-test .taken),
+  table-next 16 _ _ _ _ (c .before .loop-test .taken)
+      (c .points-to .ensures .0) (c .before .before .loop .inv .1),
+  below-next _ 16 _ (c .before .before .loop .inv .2)
+      (rw (c .points-to .ensures .0) at (c .points-to .ensures .1)),
 )
 
 returns : tie.Need-returns Inv-loop μ-loop
@@ -61,9 +54,7 @@ pointing-spec =
     Inv-loop
     μ-loop
     loop-holds
-    element-copy-out-first-not-left
-    cast-first-not-left
-    first-not-left-requires
+    points-to-requires
     cast-to
     array-write-to
     add-c

@@ -1,13 +1,18 @@
--- Pointing as tables tell it: positions, zones' lists, and for each zone the set of the carts that have left it.
-use Prim.Native.Nat.{ℕ, _+_, _*_, _≤_, _<_}
+-- Pointing as tables tell it: positions, who is in front on the lanes, zones' lists, and for each zone the set of the carts that have left it.
+use Prim.Native.Nat.{ℕ, _+_, _*_, _-_, _≤_, _<_}
+use mathlib.Core.Path.{_≡_}
 use mathlib.Core.Bool.{not}
-use mathlib.Core.List.{List}
+use mathlib.Core.List.{List, []}
 use lib.ListN.{getD}
 use lib.Dec.{ltb}
 use Rattle.words.specs.Lists.{pick, entries}
 use Rattle.sets.specs.inner.Member.{has}
 use Rattle.routes.specs.Lists.{firstOf}
+use Rattle.routes.specs.Lanes.{laneHolds}
 use Rattle.routes.specs.Moves.{movesOf}
+use Rattle.sheet_table.specs.inner.Parts as parts
+use Rattle.crossing.specs.inner.Tables.{frontsOf, crossingBy}
+use Rattle.judge_entering.specs.inner.Lanes.{lanesOf}
 
 -- the zone that cart c wants at its position; 0 where it wants none
 abbrev pub wantedIn : List ℕ → List ℕ → List ℕ → ℕ → ℕ
@@ -28,16 +33,25 @@ pub record Listable (count list : List ℕ) (z : ℕ) : Type 0 where
 abbrev pub AllListable : List ℕ → List ℕ → Type 0
 AllListable count list = (z : ℕ) → z < 24 → Listable count list z
 
-abbrev pub InZones : List ℕ → Type 0
-InZones wanted = (c : ℕ) → getD wanted c 0 < 24
-
 -- "the first cart in that zone's list which hasn't left it"
 abbrev pub firstNotLeft : List ℕ → List ℕ → List ℕ → ℕ → ℕ
 firstNotLeft count list left z = firstOf (λ d. not (has (getD left z 0) d)) (listIn count list z)
 
--- the cart that cart c points to
-abbrev pub pointIn : List ℕ → List ℕ → List ℕ → List ℕ → List ℕ → List ℕ → ℕ → ℕ
-pointIn steps zone count list at left c = firstNotLeft count list left (wantedIn steps zone at c)
+-- the cart that cart c points to: "a cart held by the lane points to that front cart before any cart in the zone list";
+-- no order in a zone bears on what the lane holds
+abbrev pub pointIn : List ℕ → List ℕ → List ℕ → List ℕ → List ℕ → List ℕ → List ℕ → ℕ → ℕ
+pointIn steps zone front count list at left c =
+    pick (laneHolds (crossingBy steps zone front []) at c) (getD front c 0 - 1) (firstNotLeft count list left (wantedIn steps zone at c))
+
+-- the same of a sheet's table
+abbrev pub pointOf : List ℕ → List ℕ → List ℕ → List ℕ → List ℕ → ℕ → ℕ
+pointOf sheet = pointIn (parts.steps sheet) (parts.zone sheet) (frontsOf sheet)
+
+-- what pointing asks of the tables
+pub record Pointable (sheet lanes count list at : List ℕ) : Type 0 where
+  pub lanes-are : lanes ≡ lanesOf sheet
+  pub wanting : Wanting (parts.steps sheet) (parts.zone sheet) at
+  pub listable : AllListable count list
 
 -- a table of 16 carts, each with the cart that it points to
 abbrev pub byTable : List ℕ → ℕ → ℕ

@@ -11,11 +11,11 @@ use Rattle.judge_running.proofs.settle.Statement.{statement}
 use Rattle.judge_running.proofs.settle.Tie as tie
 
 abbrev Inv-loop : tie.InvT-loop
-Inv-loop sheet ahead enter₀ order₀ same at₀ left₀ leave₀ made₀ going₀ enter order at left leave made going = Settling (crossingOf sheet ahead)
+Inv-loop sheet ahead enter₀ order₀ lanes at₀ left₀ leave₀ made₀ going₀ enter order at left leave made going = Settling (crossingOf sheet ahead)
     (givenOf sheet) at left leave enter order made going
 
 abbrev μ-loop : tie.MeasureT-loop
-μ-loop sheet ahead enter₀ order₀ same at₀ left₀ leave₀ made₀ going₀ enter order at left leave made going = 144 - made + min 1 going
+μ-loop sheet ahead enter₀ order₀ lanes at₀ left₀ leave₀ made₀ going₀ enter order at left leave made going = 144 - made + min 1 going
 
 lanes-requires : tie.Need-lanes-requires Inv-loop μ-loop
 unfolding givenBy
@@ -25,9 +25,9 @@ present-requires : tie.Need-present-requires Inv-loop μ-loop
 present-requires c κs = search needs
 
 loop-holds : tie.Need-loop-holds Inv-loop μ-loop
-loop-holds c = settling-start _ _ 16 _ _ _ _ _ (carts-16 _ _ _) (c .before .before .pre .2)
-    (rw (c .before .before .pre .1) (running-start _ _ 16 24 384 128 (c .before .before .pre .0) (carts-16 _ _ _) refl refl refl))
-    (rw (c .present .ensures) (present-inside _ _ _))
+loop-holds c = settling-start _ _ 16 _ _ _ _ _ (carts-16 _ _ _ _) (c .before .before .pre .2)
+    (rw (c .before .before .pre .1) (running-start _ _ 16 24 384 128 (c .before .before .pre .0) (carts-16 _ _ _ _) refl refl refl))
+    (rw (c .present .ensures) (present-inside _ _ _ _))
 
 sweep-requires : tie.Need-sweep-requires Inv-loop μ-loop
 sweep-requires c κs = (

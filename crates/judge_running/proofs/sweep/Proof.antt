@@ -2,18 +2,18 @@
 use native.Mathlib.Omega.{arith}
 use Rattle.crossing.specs.inner.Tables.{crossingOf, givenOf}
 use Rattle.crossing.proofs.Tables.{steps-is}
-use Rattle.judge_running.proofs.OneCart.{stands-few, stands-asked, stands-may, stands-held}
+use Rattle.judge_running.proofs.OneCart.{stood, stands-few, stands-held}
 use Rattle.judge_running.proofs.Turns.{Sweeping, sweeping-start, sweeping-wants, sweeping-out, sweeping-held, sweeping-none, sweeping-some}
 use borrow.Author.Needs.{needs}
 use Rattle.judge_running.proofs.sweep.Statement.{statement}
 use Rattle.judge_running.proofs.sweep.Tie as tie
 
 abbrev Inv-loop : tie.InvT-loop
-Inv-loop sheet ahead same at₀ left₀ leave₀ enter₀ order₀ inside before made₀ turn₀ still₀ at left leave enter order made turn still = Sweeping
+Inv-loop sheet lanes ahead at₀ left₀ leave₀ enter₀ order₀ inside before made₀ turn₀ still₀ at left leave enter order made turn still = Sweeping
     (crossingOf sheet ahead) (givenOf sheet) at left leave enter order before made turn still
 
 abbrev μ-loop : tie.MeasureT-loop
-μ-loop sheet ahead same at₀ left₀ leave₀ enter₀ order₀ inside before made₀ turn₀ still₀ at left leave enter order made turn still = turn
+μ-loop sheet lanes ahead at₀ left₀ leave₀ enter₀ order₀ inside before made₀ turn₀ still₀ at left leave enter order made turn still = turn
 
 loop-holds : tie.Need-loop-holds Inv-loop μ-loop
 loop-holds c = sweeping-start _ _ _ _ _ _ _ _ _ (c .pre .0) (c .pre .1)
@@ -24,41 +24,20 @@ lowest-requires c κs = search needs
 rest-requires : tie.Need-rest-requires Inv-loop μ-loop
 rest-requires c κs = search needs
 
-mul-may-enter : tie.Need-mul-may-enter Inv-loop μ-loop
-mul-may-enter c = search needs
-
-element-copy-out-may-enter : tie.Need-element-copy-out-may-enter Inv-loop μ-loop
-element-copy-out-may-enter c = search needs
-
-cast-may-enter : tie.Need-cast-may-enter Inv-loop μ-loop
-cast-may-enter c = omega (
-  arith,
+may-go-in-requires : tie.Need-may-go-in-requires Inv-loop μ-loop
+may-go-in-requires c κs = (
+  stood _ _ _ _ _ _ _ _ _ (c .before .before .before .before .before .loop .inv .underway) (c .before .before .before .lowest .ensures .0),
   c .before .before .before .lowest .ensures .0,
-  stands-few _ _ _ _ _ _ _ _ _
-      (c .before .before .before .before .before .loop .inv .underway) (c .before .before .before .lowest .ensures .0),
+  c .before .before .before .before .before .before .pre .2,
+  (sweeping-wants _ _ _ _ _ _ _ _ _ _ _ (c .before .before .before .before .before .loop .inv) _ _
+      (steps-is _ _ _ _ _ (c .before .before .before .lowest .ensures .0)) (c .before .before .before .lowest .ensures .1)),
 )
-
-add-may-enter : tie.Need-add-may-enter Inv-loop μ-loop
-add-may-enter c = omega (
-  arith,
-  c .before .before .before .lowest .ensures .0,
-  stands-few _ _ _ _ _ _ _ _ _
-      (c .before .before .before .before .before .loop .inv .underway) (c .before .before .before .lowest .ensures .0),
-)
-
-may-enter-requires : tie.Need-may-enter-requires Inv-loop μ-loop
-may-enter-requires c κs = stands-asked _ _ _ _ _ _ _ _ _ (c .before .before .before .before .before .loop .inv .underway)
-    (c .before .before .before .lowest .ensures .0) (sweeping-wants _ _ _ _ _ _ _ _ _ _ _ (c .before .before .before .before .before .loop .inv) _ _
-    (steps-is _ _ _ _ (c .before .before .before .lowest .ensures .0)) (c .before .before .before .lowest .ensures .1))
 
 advance-requires : tie.Need-advance-requires Inv-loop μ-loop
 advance-requires c κs = (
   c .before .before .before .before .before .before .before .before .before .before .before .before .loop .inv .underway,
   c .before .before .before .before .before .before .before .before .before .before .lowest .ensures .0,
-  stands-may _ _ _ _ _ _ _ _ _
-      (c .before .before .before .before .before .before .before .before .before .before .before .before .loop .inv .underway)
-      (c .before .before .before .before .before .before .before .before .before .before .lowest .ensures .0)
-      (sweeping-wants _ _ _ _ _ _ _ _ _ _ _ (c .before .before .before .before .before .before .before .before .before .before .before .before .loop .inv) _ _ (steps-is _ _ _ _ (c .before .before .before .before .before .before .before .before .before .before .lowest .ensures .0)) (c .before .before .before .before .before .before .before .before .before .before .lowest .ensures .1)) _ (c .before .before .before .before .before .before .may-enter .ensures) .0 (c .before .before .before .before .before .if1 .taken),
+  c .before .before .before .before .before .before .may-go-in .ensures .0 (c .before .before .before .before .before .if1 .taken),
   c .before .before .before .before .before .before .before .before .before .before .before .before .before .pre .2,
 )
 
@@ -82,13 +61,23 @@ loop-less : tie.Need-loop-less Inv-loop μ-loop
 loop-less c = c .before .before .before .before .before .before .before .before .before .before .before .before .before .before .rest .ensures .smaller
 
 loop-again : tie.Need-loop-again Inv-loop μ-loop
-loop-again c = sweeping-out _ _ _ _ _ _ _ _ _ _ _ (c .before .before .before .before .before .before .before .before .before .before .before .before .before .before .before .before .before .loop .inv) _ _ (c .before .before .before .before .before .before .before .before .before .before .before .before .before .before .before .lowest .ensures .1) (c .before .before .before .before .before .before .before .before .before .before .before .before .before .before .rest .ensures) _ _ _ _ _ _ (c .before .before .before .before .advance .ensures) _ _ (steps-is _ _ _ _ (c .before .before .before .before .before .before .before .before .before .before .before .before .before .before .before .lowest .ensures .0)) (rw (c .before .before .before .steps .ensures) at (c .before .if2 .taken)) (c .without .ensures)
+loop-again c = sweeping-out _ _ _ _ _ _ _ _ _ _ _
+    (c .before .before .before .before .before .before .before .before .before .before .before .before .before .before .before .before .before .loop .inv) _ _
+    (c .before .before .before .before .before .before .before .before .before .before .before .before .before .before .before .lowest .ensures .1)
+    (c .before .before .before .before .before .before .before .before .before .before .before .before .before .before .rest .ensures) _ _ _ _ _ _
+    (c .before .before .before .before .advance .ensures) _ _
+    (steps-is _ _ _ _ _ (c .before .before .before .before .before .before .before .before .before .before .before .before .before .before .before .lowest .ensures .0)) (rw (c .before .before .before .steps .ensures) at (c .before .if2 .taken)) (c .without .ensures)
 
 loop-less-2 : tie.Need-loop-less-2 Inv-loop μ-loop
 loop-less-2 c = c .before .before .before .before .before .before .before .before .before .before .before .before .before .rest .ensures .smaller
 
 loop-again-2 : tie.Need-loop-again-2 Inv-loop μ-loop
-loop-again-2 c = sweeping-held _ _ _ _ _ _ _ _ _ _ _ (c .before .before .before .before .before .before .before .before .before .before .before .before .before .before .before .before .loop .inv) _ _ (c .before .before .before .before .before .before .before .before .before .before .before .before .before .before .lowest .ensures .1) (c .before .before .before .before .before .before .before .before .before .before .before .before .before .rest .ensures) _ _ _ _ _ _ (c .before .before .before .advance .ensures) _ (steps-is _ _ _ _ (c .before .before .before .before .before .before .before .before .before .before .before .before .before .before .lowest .ensures .0)) (rw (c .before .before .steps .ensures) at (c .if2 .left))
+loop-again-2 c = sweeping-held _ _ _ _ _ _ _ _ _ _ _
+    (c .before .before .before .before .before .before .before .before .before .before .before .before .before .before .before .before .loop .inv) _ _
+    (c .before .before .before .before .before .before .before .before .before .before .before .before .before .before .lowest .ensures .1)
+    (c .before .before .before .before .before .before .before .before .before .before .before .before .before .rest .ensures) _ _ _ _ _ _
+    (c .before .before .before .advance .ensures) _
+    (steps-is _ _ _ _ _ (c .before .before .before .before .before .before .before .before .before .before .before .before .before .before .lowest .ensures .0)) (rw (c .before .before .steps .ensures) at (c .if2 .left))
 
 loop-less-3 : tie.Need-loop-less-3 Inv-loop μ-loop
 loop-less-3 c = c .before .before .before .before .rest .ensures .smaller
@@ -97,15 +86,12 @@ loop-again-3 : tie.Need-loop-again-3 Inv-loop μ-loop
 loop-again-3 c = sweeping-held _ _ _ _ _ _ _ _ _ _ _ (c .before .before .before .before .before .before .before .loop .inv) _ _
     (c .before .before .before .before .before .lowest .ensures .1) (c .before .before .before .before .rest .ensures) _ _ _ _ _ _
     (stands-held _ _ _ _ _ _ _ _ _ (c .before .before .before .before .before .before .before .loop .inv .underway)
-    (c .before .before .before .before .before .lowest .ensures .0) (sweeping-wants _ _ _ _ _ _ _ _ _ _ _
-    (c .before .before .before .before .before .before .before .loop .inv) _ _
-    (steps-is _ _ _ _ (c .before .before .before .before .before .lowest .ensures .0))
-    (c .before .before .before .before .before .lowest .ensures .1)) _ (c .before .may-enter .ensures) (c .if1 .left)) _
-    (steps-is _ _ _ _ (c .before .before .before .before .before .lowest .ensures .0))
+    (c .before .before .before .before .before .lowest .ensures .0) _ (c .before .may-go-in .ensures) (c .if1 .left)) _
+    (steps-is _ _ _ _ _ (c .before .before .before .before .before .lowest .ensures .0))
     (omega (
       arith,
       (sweeping-wants _ _ _ _ _ _ _ _ _ _ _ (c .before .before .before .before .before .before .before .loop .inv) _ _
-          (steps-is _ _ _ _ (c .before .before .before .before .before .lowest .ensures .0)) (c .before .before .before .before .before .lowest .ensures .1)),
+          (steps-is _ _ _ _ _ (c .before .before .before .before .before .lowest .ensures .0)) (c .before .before .before .before .before .lowest .ensures .1)),
     ))
 
 returns : tie.Need-returns Inv-loop μ-loop
@@ -123,11 +109,7 @@ sweep-spec =
     loop-holds
     lowest-requires
     rest-requires
-    mul-may-enter
-    element-copy-out-may-enter
-    cast-may-enter
-    add-may-enter
-    may-enter-requires
+    may-go-in-requires
     advance-requires
     steps-requires
     element-copy-out-if2

@@ -11,7 +11,7 @@ lowest-stuck-requires : tie.Need-lowest-stuck-requires
 lowest-stuck-requires c κs = search needs
 
 returns : tie.Need-returns
-returns c = runs _ _ _ _ _ _ _ _ _ (c .before .before .before .before .settle .ensures) _ (c .lowest-stuck .ensures)
+returns c = runs _ _ _ _ _ _ _ _ _ _ (c .before .before .before .before .settle .ensures) _ (c .lowest-stuck .ensures)
 
 pub verdict-of-spec : {M : Type 1} → statement M
 verdict-of-spec = tie.close (tie.spec settle-requires lowest-stuck-requires returns)

@@ -1,9 +1,9 @@
 -- Each way out is what the tests so far say.
-use mathlib.Core.Path.{sym, _∙_}
+use mathlib.Core.Path.{_∙_}
 use native.Mathlib.Omega.{arith}
 use borrow.Author.Tests.{not-true, not-false}
+use Rattle.plan_reader.proofs.ValidLaws.{valid-lanes}
 use Rattle.crossing.proofs.Plans.{plan-sound}
-use Rattle.judge.proofs.Verdict.{tables-out}
 use Rattle.moving_asking.proofs.Request.{sheet-orderly, locked-is, unreached-is, made-few, absent-is, tested-standing, cart-few, already-is}
 use Rattle.moving_asking.proofs.Request.{place-few, moved-is, held-wanting, held-is}
 use borrow.Author.Needs.{needs}
@@ -21,10 +21,16 @@ no-move-requires c κs = search needs
 
 returns : tie.Need-returns
 returns c = λ n a b v w. c .no-move .ensures ∙ rw (c .before .refused .ensures)
-    (locked-is _ _ v w _ _ (sym (tables-out _ _ v w) ∙ sym (c .before .before .before .all-out .ensures) ∙ not-true _ (c .before .before .if1 .taken)))
+    (locked-is _ _ v w _ _ _ (c .before .before .before .all-out .ensures) (not-true _ (c .before .before .if1 .taken)))
+
+lanes-requires : tie.Need-lanes-requires
+lanes-requires c κs = valid-lanes _ (c .before .before .pre .valid)
 
 test-record-requires : tie.Need-test-record-requires
-test-record-requires c κs = sheet-orderly _ _ (c .before .before .pre .valid) (c .before .before .pre .valid-orders)
+test-record-requires c κs = (
+  sheet-orderly _ _ (c .before .before .before .before .pre .valid) (c .before .before .before .before .pre .valid-orders),
+  c .before .lanes .ensures,
+)
 
 refused-requires-2 : tie.Need-refused-requires-2
 refused-requires-2 c κs = search needs
@@ -34,9 +40,10 @@ no-move-requires-2 c κs = search needs
 
 returns-2 : tie.Need-returns-2
 returns-2 c = λ n a b v w. c .no-move2 .ensures ∙ rw (c .before .refused2 .ensures)
-    (unreached-is _ _ v w _ _ (sym (tables-out _ _ v w) ∙ sym (c .before .before .before .before .before .before .all-out .ensures) ∙ not-false _
-    (c .before .before .before .before .before .if1 .left)) _ (c .before .before .before .before .test-record .ensures)
-    (not-true _ (c .before .before .if2 .taken)))
+    (unreached-is _ _ v w _ _
+    _ (c .before .before .before .before .before .before .before .before .all-out .ensures)
+    (not-false _ (c .before .before .before .before .before .before .before .if1 .left)) _
+    (c .before .before .before .before .test-record .ensures) (not-true _ (c .before .before .if2 .taken)))
 
 refused-requires-3 : tie.Need-refused-requires-3
 refused-requires-3 c κs = search needs
@@ -46,28 +53,19 @@ no-move-requires-3 c κs = search needs
 
 returns-3 : tie.Need-returns-3
 returns-3 c = λ n a b v w. c .no-move3 .ensures ∙ rw (c .before .refused3 .ensures)
-    (absent-is _ _ v w _ _ (sym (tables-out _ _ v w) ∙ sym (c .before .before .before .before .before .before .before .all-out .ensures) ∙ not-false
-    _ (c .before .before .before .before .before .before .if1 .left)) _ (c .before .before .before .before .before .test-record .ensures)
-    (not-false _ (c .before .before .before .if2 .left)) (c .before .before .if3 .taken))
+    (absent-is _ _ v w _ _
+    _ (c .before .before .before .before .before .before .before .before .before .all-out .ensures)
+    (not-false _ (c .before .before .before .before .before .before .before .before .if1 .left)) _
+    (c .before .before .before .before .before .test-record .ensures) (not-false _ (c .before .before .before .if2 .left)) (c .before .before .if3 .taken))
 
 steps-requires : tie.Need-steps-requires
-steps-requires c κs = cart-few _ _ (c .before .before .before .before .before .before .before .pre .valid)
-    (c .before .before .before .before .before .before .before .pre .valid-orders) _ _
-    (sym (tables-out _ _ (c .before .before .before .before .before .before .before .pre .valid)
-    (c .before .before .before .before .before .before .before .pre .valid-orders)) ∙ sym
-    (c .before .before .before .before .before .before .all-out .ensures) ∙ not-false _ (c .before .before .before .before .before .if1 .left)) _
-    (c .before .before .before .before .test-record .ensures) (not-false _ (c .before .before .if2 .left)) (c .before .if3 .left)
+steps-requires c κs = cart-few _ (c .before .before .before .before .before .before .before .before .before .pre .valid) _ (c .before .if3 .left)
 
 array-read-wide : tie.Need-array-read-wide
 array-read-wide c = omega (
   arith,
-  cart-few _ _ (c .before .before .before .before .before .before .before .before .pre .valid)
-      (c .before .before .before .before .before .before .before .before .pre .valid-orders) _ _
-      (sym (tables-out _ _ (c .before .before .before .before .before .before .before .before .pre .valid)
-      (c .before .before .before .before .before .before .before .before .pre .valid-orders)) ∙ sym
-      (c .before .before .before .before .before .before .before .all-out .ensures) ∙ not-false _
-      (c .before .before .before .before .before .before .if1 .left)) _ (c .before .before .before .before .before .test-record .ensures)
-      (not-false _ (c .before .before .before .if2 .left)) (c .before .before .if3 .left),
+  cart-few _ (c .before .before .before .before .before .before .before .before .before .before .pre .valid) _
+      (c .before .before .if3 .left),
 )
 
 wide-requires : tie.Need-wide-requires
@@ -81,39 +79,121 @@ no-move-requires-4 c κs = search needs
 
 returns-4 : tie.Need-returns-4
 returns-4 c = λ n a b v w. c .no-move4 .ensures ∙ rw (c .before .refused4 .ensures)
-    (already-is _ _ v w _ _ (sym (tables-out _ _ v w) ∙ sym (c .before .before .before .before .before .before .before .before .before .before .before .all-out .ensures) ∙ not-false _ (c .before .before .before .before .before .before .before .before .before .before .if1 .left)) _ (c .before .before .before .before .before .before .before .before .before .test-record .ensures) (not-false _ (c .before .before .before .before .before .before .before .if2 .left)) (c .before .before .before .before .before .before .if3 .left) (rw (c .before .before .before .before .steps .ensures, c .before .before .before .wide .ensures .0) at (c .before .before .if4 .taken)))
+    (already-is _ _ v w _ _
+    _ (c .before .before .before .before .before .before .before .before .before .before .before .before .before .all-out .ensures)
+    (not-false _ (c .before .before .before .before .before .before .before .before .before .before .before .before .if1 .left)) _
+    (c .before .before .before .before .before .before .before .before .before .test-record .ensures)
+    (not-false _ (c .before .before .before .before .before .before .before .if2 .left)) (c .before .before .before .before .before .before .if3 .left)
+    (rw (c .before .before .before .before .steps .ensures, c .before .before .before .wide .ensures .0) at (c .before .before .if4 .taken)))
 
 may-move-requires : tie.Need-may-move-requires
-may-move-requires c κs = (tested-standing _ _ (c .before .before .before .before .before .before .before .before .before .before .before .before .before .pre .valid) (c .before .before .before .before .before .before .before .before .before .before .before .before .before .pre .valid-orders) _ (c .before .before .before .before .before .before .before .before .before .before .before .before .before .args .cart) (sym (tables-out _ _ (c .before .before .before .before .before .before .before .before .before .before .before .before .before .pre .valid) (c .before .before .before .before .before .before .before .before .before .before .before .before .before .pre .valid-orders)) ∙ sym (c .before .before .before .before .before .before .before .before .before .before .before .before .all-out .ensures) ∙ not-false _ (c .before .before .before .before .before .before .before .before .before .before .before .if1 .left)) _ (c .before .before .before .before .before .before .before .before .before .before .test-record .ensures) (not-false _ (c .before .before .before .before .before .before .before .before .if2 .left)), cart-few _ _ (c .before .before .before .before .before .before .before .before .before .before .before .before .before .pre .valid) (c .before .before .before .before .before .before .before .before .before .before .before .before .before .pre .valid-orders) _ _ (sym (tables-out _ _ (c .before .before .before .before .before .before .before .before .before .before .before .before .before .pre .valid) (c .before .before .before .before .before .before .before .before .before .before .before .before .before .pre .valid-orders)) ∙ sym (c .before .before .before .before .before .before .before .before .before .before .before .before .all-out .ensures) ∙ not-false _ (c .before .before .before .before .before .before .before .before .before .before .before .if1 .left)) _ (c .before .before .before .before .before .before .before .before .before .before .test-record .ensures) (not-false _ (c .before .before .before .before .before .before .before .before .if2 .left)) (c .before .before .before .before .before .before .before .if3 .left))
+may-move-requires c κs = (
+  tested-standing _ _
+      (c .before .before .before .before .before .before .before .before .before .before .before .before .before .before .before .before .pre .valid)
+      (c .before .before .before .before .before .before .before .before .before .before .before .before .before .before .before .before .pre .valid-orders) _ _
+      (c .before .before .before .before .before .before .before .before .before .before .before .test-record .ensures)
+      (not-false _ (c .before .before .before .before .before .before .before .before .before .if2 .left)),
+  cart-few _ (c .before .before .before .before .before .before .before .before .before .before .before .before .before .before .before .before .pre .valid) _
+      (c .before .before .before .before .before .before .before .before .if3 .left),
+  c .before .before .before .before .before .before .before .before .before .before .before .before .before .lanes .ensures,
+)
 
 refused-requires-5 : tie.Need-refused-requires-5
 refused-requires-5 c κs = search needs
 
 carts-ahead-requires : tie.Need-carts-ahead-requires
-carts-ahead-requires c κs = held-wanting _ _ (c .before .before .before .before .before .before .before .before .before .before .before .before .before .before .before .before .before .before .pre .valid) (c .before .before .before .before .before .before .before .before .before .before .before .before .before .before .before .before .before .before .pre .valid-orders) _ _ (sym (tables-out _ _ (c .before .before .before .before .before .before .before .before .before .before .before .before .before .before .before .before .before .before .pre .valid) (c .before .before .before .before .before .before .before .before .before .before .before .before .before .before .before .before .before .before .pre .valid-orders)) ∙ sym (c .before .before .before .before .before .before .before .before .before .before .before .before .before .before .before .before .before .all-out .ensures) ∙ not-false _ (c .before .before .before .before .before .before .before .before .before .before .before .before .before .before .before .before .if1 .left)) _ (c .before .before .before .before .before .before .before .before .before .before .before .before .before .before .before .test-record .ensures) (not-false _ (c .before .before .before .before .before .before .before .before .before .before .before .before .before .if2 .left)) (c .before .before .before .before .before .before .before .before .before .before .before .before .if3 .left) (rw (c .before .before .before .before .before .before .before .before .before .before .steps .ensures, c .before .before .before .before .before .before .before .before .before .wide .ensures .0) at (c .before .before .before .before .before .before .before .before .if4 .left)) _ (c .before .before .before .before .may-move .ensures) (not-true _ (c .before .before .before .if5 .taken))
+carts-ahead-requires c κs = (
+  held-wanting _ _
+      (c .before .before .before .before .before .before .before .before .before .before .before .before .before .before .before .before .before .before .before .before .before .before .pre .valid)
+      (c .before .before .before .before .before .before .before .before .before .before .before .before .before .before .before .before .before .before .before .before .before .before .pre .valid-orders)
+      (c .before .before .before .before .before .before .before .before .before .before .before .before .before .before .before .before .before .before .before .before .before .before .args .lent)
+      _ _ (c .before .before .before .before .before .may-move .ensures) (not-true _ (c .before .before .before .before .if5 .taken))
+      (c .before .before .before .before .before .before .before .before .before .before .before .before .before .before .if3 .left)
+      (rw (
+        c .before .before .before .before .before .before .before .before .before .before .before .before .steps .ensures,
+        c .before .before .before .before .before .before .before .before .before .before .before .wide .ensures .0,
+      ) at
+      (c .before .before .before .before .before .before .before .before .before .before .if4 .left)),
+  c .before .before .before .before .before .before .before .before .before .before .before .before .before .before .before .before .before .before .before .lanes .ensures,
+)
 
 no-move-requires-5 : tie.Need-no-move-requires-5
 no-move-requires-5 c κs = search needs
 
 returns-5 : tie.Need-returns-5
-returns-5 c = λ n a b v w. c .no-move5 .ensures ∙ rw (c .before .before .before .before .refused5 .ensures)
-    (held-is _ _ v w _ _ (sym (tables-out _ _ v w) ∙ sym (c .before .before .before .before .before .before .before .before .before .before .before .before .before .before .before .before .before .before .before .all-out .ensures) ∙ not-false _ (c .before .before .before .before .before .before .before .before .before .before .before .before .before .before .before .before .before .before .if1 .left)) _ (c .before .before .before .before .before .before .before .before .before .before .before .before .before .before .before .before .before .test-record .ensures) (not-false _ (c .before .before .before .before .before .before .before .before .before .before .before .before .before .before .before .if2 .left)) (c .before .before .before .before .before .before .before .before .before .before .before .before .before .before .if3 .left) (rw (c .before .before .before .before .before .before .before .before .before .before .before .before .steps .ensures, c .before .before .before .before .before .before .before .before .before .before .before .wide .ensures .0) at (c .before .before .before .before .before .before .before .before .before .before .if4 .left)) _ (c .before .before .before .before .before .before .may-move .ensures) (not-true _ (c .before .before .before .before .before .if5 .taken)) _ (c .before .carts-ahead .ensures))
+returns-5 c = λ n a b v w. c .no-move5 .ensures ∙ rw (c .before .before .before .before .before .refused5 .ensures)
+    (held-is _ _ v w _ _
+    _
+    (c .before .before .before .before .before .before .before .before .before .before .before .before .before .before .before .before .before .before .before .before .before .before .before .all-out .ensures)
+    (not-false _ (c .before .before .before .before .before .before .before .before .before .before .before .before .before .before .before .before .before .before .before .before .before .before .if1 .left))
+    _
+    (c .before .before .before .before .before .before .before .before .before .before .before .before .before .before .before .before .before .before .before .test-record .ensures)
+    (not-false _ (c .before .before .before .before .before .before .before .before .before .before .before .before .before .before .before .before .before .if2 .left))
+    (c .before .before .before .before .before .before .before .before .before .before .before .before .before .before .before .before .if3 .left)
+    (rw (
+      c .before .before .before .before .before .before .before .before .before .before .before .before .before .before .steps .ensures,
+      c .before .before .before .before .before .before .before .before .before .before .before .before .before .wide .ensures .0,
+    ) at
+    (c .before .before .before .before .before .before .before .before .before .before .before .before .if4 .left))
+    _ (c .before .before .before .before .before .before .before .may-move .ensures)
+    (not-true _ (c .before .before .before .before .before .before .if5 .taken)) _ (c .before .carts-ahead .ensures))
 
 done-requires : tie.Need-done-requires
 done-requires c κs = search needs
 
-array-read-t18 : tie.Need-array-read-t18
-array-read-t18 c = omega (arith, cart-few _ _ (c .before .before .before .before .before .before .before .before .before .before .before .before .before .before .before .before .pre .valid) (c .before .before .before .before .before .before .before .before .before .before .before .before .before .before .before .before .pre .valid-orders) _ _ (sym (tables-out _ _ (c .before .before .before .before .before .before .before .before .before .before .before .before .before .before .before .before .pre .valid) (c .before .before .before .before .before .before .before .before .before .before .before .before .before .before .before .before .pre .valid-orders)) ∙ sym (c .before .before .before .before .before .before .before .before .before .before .before .before .before .before .before .all-out .ensures) ∙ not-false _ (c .before .before .before .before .before .before .before .before .before .before .before .before .before .before .if1 .left)) _ (c .before .before .before .before .before .before .before .before .before .before .before .before .before .test-record .ensures) (not-false _ (c .before .before .before .before .before .before .before .before .before .before .before .if2 .left)) (c .before .before .before .before .before .before .before .before .before .before .if3 .left))
+array-read-t21 : tie.Need-array-read-t21
+array-read-t21 c = omega (
+  arith,
+  cart-few _
+      (c .before .before .before .before .before .before .before .before .before .before .before .before .before .before .before .before .before .before .before .pre .valid)
+      _
+      (c .before .before .before .before .before .before .before .before .before .before .before .if3 .left),
+)
 
-add-t29 : tie.Need-add-t29
-add-t29 c = record { fits = omega (arith, place-few _ _ (c .before .before .before .before .before .before .before .before .before .before .before .before .before .before .before .before .pre .valid) (c .before .before .before .before .before .before .before .before .before .before .before .before .before .before .before .before .pre .valid-orders) _ _ (sym (tables-out _ _ (c .before .before .before .before .before .before .before .before .before .before .before .before .before .before .before .before .pre .valid) (c .before .before .before .before .before .before .before .before .before .before .before .before .before .before .before .before .pre .valid-orders)) ∙ sym (c .before .before .before .before .before .before .before .before .before .before .before .before .before .before .before .all-out .ensures) ∙ not-false _ (c .before .before .before .before .before .before .before .before .before .before .before .before .before .before .if1 .left)) _ (c .before .before .before .before .before .before .before .before .before .before .before .before .before .test-record .ensures) (not-false _ (c .before .before .before .before .before .before .before .before .before .before .before .if2 .left)) (c .before .before .before .before .before .before .before .before .before .before .if3 .left) (rw (c .before .before .before .before .before .before .before .before .steps .ensures, c .before .before .before .before .before .before .before .wide .ensures .0) at (c .before .before .before .before .before .before .if4 .left))) }
+add-t34 : tie.Need-add-t34
+add-t34 c = record {
+  fits = omega (
+    arith,
+    place-few _
+        (c .before .before .before .before .before .before .before .before .before .before .before .before .before .before .before .before .before .before .before .pre .valid)
+        _
+        (c .before .before .before .before .before .before .before .before .before .before .before .if3 .left) _
+        (rw (
+          c .before .before .before .before .before .before .before .before .before .steps .ensures,
+          c .before .before .before .before .before .before .before .before .wide .ensures .0,
+        ) at
+        (c .before .before .before .before .before .before .before .if4 .left)),
+  );
+}
 
-add-t30 : tie.Need-add-t30
-add-t30 c = record { fits = omega (arith, made-few _ _ (c .before .before .before .before .before .before .before .before .before .before .before .before .before .before .before .before .before .pre .valid) (c .before .before .before .before .before .before .before .before .before .before .before .before .before .before .before .before .before .pre .valid-orders) _ (c .before .before .before .before .before .before .before .before .before .before .before .before .before .before .before .before .before .args .cart) (sym (tables-out _ _ (c .before .before .before .before .before .before .before .before .before .before .before .before .before .before .before .before .before .pre .valid) (c .before .before .before .before .before .before .before .before .before .before .before .before .before .before .before .before .before .pre .valid-orders)) ∙ sym (c .before .before .before .before .before .before .before .before .before .before .before .before .before .before .before .before .all-out .ensures) ∙ not-false _ (c .before .before .before .before .before .before .before .before .before .before .before .before .before .before .before .if1 .left)) _ (c .before .before .before .before .before .before .before .before .before .before .before .before .before .before .test-record .ensures) (not-false _ (c .before .before .before .before .before .before .before .before .before .before .before .before .if2 .left))) }
+add-t35 : tie.Need-add-t35
+add-t35 c = record {
+  fits = omega (
+    arith,
+    made-few _ _
+        (c .before .before .before .before .before .before .before .before .before .before .before .before .before .before .before .before .before .before .before .before .pre .valid)
+        (c .before .before .before .before .before .before .before .before .before .before .before .before .before .before .before .before .before .before .before .before .pre .valid-orders)
+        _ _
+        (c .before .before .before .before .before .before .before .before .before .before .before .before .before .before .before .test-record .ensures)
+        (not-false _ (c .before .before .before .before .before .before .before .before .before .before .before .before .before .if2 .left)),
+  );
+}
 
 returns-6 : tie.Need-returns-6
 returns-6 c = λ n a b v w. rw (c .before .done .ensures) (moved-is _ _ v w _ _
-    (sym (tables-out _ _ v w) ∙ sym (c .before .before .before .before .before .before .before .before .before .before .before .before .before .before .before .before .all-out .ensures) ∙ not-false _ (c .before .before .before .before .before .before .before .before .before .before .before .before .before .before .before .if1 .left)) _ (c .before .before .before .before .before .before .before .before .before .before .before .before .before .before .test-record .ensures) (not-false _ (c .before .before .before .before .before .before .before .before .before .before .before .before .if2 .left)) (c .before .before .before .before .before .before .before .before .before .before .before .if3 .left) (rw (c .before .before .before .before .before .before .before .before .before .steps .ensures, c .before .before .before .before .before .before .before .before .wide .ensures .0) at (c .before .before .before .before .before .before .before .if4 .left)) _ (c .before .before .before .may-move .ensures) (not-false _ (c .before .before .if5 .left)))
+    _
+    (c .before .before .before .before .before .before .before .before .before .before .before .before .before .before .before .before .before .before .before .all-out .ensures)
+    (not-false _ (c .before .before .before .before .before .before .before .before .before .before .before .before .before .before .before .before .before .before .if1 .left))
+    _
+    (c .before .before .before .before .before .before .before .before .before .before .before .before .before .before .before .test-record .ensures)
+    (not-false _ (c .before .before .before .before .before .before .before .before .before .before .before .before .before .if2 .left))
+    (c .before .before .before .before .before .before .before .before .before .before .before .before .if3 .left)
+    (rw (
+      c .before .before .before .before .before .before .before .before .before .before .steps .ensures,
+      c .before .before .before .before .before .before .before .before .before .wide .ensures .0,
+    ) at
+    (c .before .before .before .before .before .before .before .before .if4 .left))
+    _ (c .before .before .before .may-move .ensures) (not-false _ (c .before .before .if5 .left)))
 
 pub ask-plan-spec : {M : Type 1} → statement M
 ask-plan-spec =
@@ -123,6 +203,7 @@ ask-plan-spec =
     refused-requires
     no-move-requires
     returns
+    lanes-requires
     test-record-requires
     refused-requires-2
     no-move-requires-2
@@ -142,7 +223,7 @@ ask-plan-spec =
     no-move-requires-5
     returns-5
     done-requires
-    array-read-t18
-    add-t29
-    add-t30
+    array-read-t21
+    add-t34
+    add-t35
     returns-6)

@@ -1,65 +1,30 @@
--- The ones of the set are counted by its members.
-use mathlib.Core.Path.{_∙_}
+-- The lane's hold is one more.
+use Prim.Native.Nat.{_≤_}
+use mathlib.Core.Path.{sym, _∙_}
 use native.Mathlib.Omega.{arith}
-use Rattle.sets.proofs.Laws.{ones-passing}
-use borrow.Author.Needs.{needs}
+use Rattle.sets.proofs.Counting.{count-most}
+use Rattle.judge_entering.proofs.Holding.{front-16}
 use Rattle.moving_asking.proofs.carts_ahead.Statement.{statement}
 use Rattle.moving_asking.proofs.carts_ahead.Tie as tie
 
-mul-x : tie.Need-mul-x
-mul-x c = search needs
+not-gone-requires : tie.Need-not-gone-requires
+not-gone-requires c κs = c .pre .0
 
-element-copy-out-wide : tie.Need-element-copy-out-wide
-element-copy-out-wide c = search needs
+lane-holds-requires : tie.Need-lane-holds-requires
+lane-holds-requires c κs = (c .before .pre .0 .cart, front-16 _ _ (c .before .pre .1) _ (c .before .pre .0 .cart))
 
-wide-requires : tie.Need-wide-requires
-wide-requires c κs = search needs
-
-add-x : tie.Need-add-x
-add-x c = search needs
-
-zone-requires : tie.Need-zone-requires
-zone-requires c κs = search needs
-
-mul-less : tie.Need-mul-less
-mul-less c = search needs
-
-element-copy-out-less : tie.Need-element-copy-out-less
-element-copy-out-less c = search needs
-
-mul-less-2 : tie.Need-mul-less-2
-mul-less-2 c = omega (arith, rw (← c .before .before .wide .ensures .0, ← c .before .zone .ensures) at (c .before .before .before .before .pre .known))
-
-element-copy-out-less-2 : tie.Need-element-copy-out-less-2
-element-copy-out-less-2 c = omega (
-  arith,
-  rw (← c .before .before .wide .ensures .0, ← c .before .zone .ensures) at
-      (c .before .before .before .before .pre .known),
-)
-
-less-requires : tie.Need-less-requires
-less-requires c κs = search needs
-
-count-requires : tie.Need-count-requires
-count-requires c κs = search needs
+add-result : tie.Need-add-result
+add-result c = let few : c .before .before .not-gone .result ≤ 16 = rw (c .before .before .not-gone .ensures) (count-most 16 _) in
+    record { fits = omega (arith, few) }
 
 returns : tie.Need-returns
-returns c = c .count .ensures ∙ ones-passing 16 _ _ (omega (arith, c .before .less .ok))
-    (λ i _. rw (c .before .before .before .before .zone .ensures, c .before .before .before .before .before .wide .ensures .0) at (c .before .less .ensures i))
+returns c = rw (sym (c .before .lane-holds .ensures _ (c .before .before .before .args .ahead .now) (c .before .before .before .pre .1)) ∙ c .if1 .taken)
+    (omega (arith, c .before .before .not-gone .ensures))
+
+returns-2 : tie.Need-returns-2
+returns-2 c = rw (sym (c .before .lane-holds .ensures _ (c .before .before .before .args .ahead .now) (c .before .before .before .pre .1)) ∙ c .if1 .left)
+    (omega (arith, c .before .before .not-gone .ensures))
 
 pub carts-ahead-spec : {M : Type 1} → statement M
 carts-ahead-spec =
-    tie.close
-    (tie.spec
-    mul-x
-    element-copy-out-wide
-    wide-requires
-    add-x
-    zone-requires
-    mul-less
-    element-copy-out-less
-    mul-less-2
-    element-copy-out-less-2
-    less-requires
-    count-requires
-    returns)
+    tie.close (tie.spec not-gone-requires lane-holds-requires add-result returns returns-2)

@@ -1,11 +1,13 @@
--- The carts ahead and not gone, over tables: at 8 * c + j stand the zone of step j of cart c and the set of the carts ahead of it.
+-- The carts ahead and not gone, and the lane's hold, over tables: at 8 * c + j stand the zone of step j of cart c and the set of the carts ahead of it.
 use Prim.Native.Nat.{ℕ, _+_, _*_, _<_}
 use mathlib.Core.Bool.{not, _&&_}
 use mathlib.Core.List.{List}
 use lib.ListN.{getD}
 use Rattle.words.specs.declared.Outcome.{Outcome}
 use Rattle.sets.specs.inner.Member.{has}
-use Rattle.sets.specs.Counting.{countBelow}
+use Rattle.sets.specs.Counting.{bit, countBelow}
+use Rattle.routes.specs.Crossing.{Crossing}
+use Rattle.routes.specs.Lanes.{laneHolds}
 use Rattle.moving_asking.specs.declared.Asked.{Asked}
 
 abbrev pub noMove : Outcome → ℕ → Asked
@@ -25,3 +27,7 @@ pub record WantsZone (zone at : List ℕ) (c : ℕ) : Type 0 where
 abbrev pub notGone : List ℕ → List ℕ → List ℕ → List ℕ → ℕ → ℕ
 notGone zone ahead at left c =
     countBelow 16 λ d. has (getD ahead (wantedAt at c) 0) d && not (has (getD left (getD zone (wantedAt at c) 0) 0) d)
+
+-- the same, and one more if the lane holds the cart
+abbrev pub heldBy : Crossing → List ℕ → List ℕ → List ℕ → List ℕ → ℕ → ℕ
+heldBy X zone ahead at left c = notGone zone ahead at left c + bit (laneHolds X at c)

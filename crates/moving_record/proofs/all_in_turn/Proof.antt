@@ -1,17 +1,20 @@
 -- The loop keeps that the carts before c entered their zones in turn.
-use Prim.Native.Nat.{_-_, _≤_}
+use Prim.Native.Nat.{_-_, _≤_, min}
 use mathlib.Core.Path.{refl, sym, _∙_}
 use mathlib.Core.Bool.{false≢true}
 use borrow.Author.Tests.{not-true, not-false}
 use native.Mathlib.Omega.{arith}
-use Rattle.moving_record.proofs.Turns.{TurnsBefore, turns-next, zones-known}
+use lib.ListN.{getD}
+use Rattle.moving_record.specs.inner.Tables.{InTurn}
+use Rattle.moving_record.proofs.Each.{Each, each-next}
+use Rattle.moving_record.proofs.Turns.{zones-known}
 use borrow.Author.Needs.{needs}
 use Rattle.sheet_table.specs.inner.Parts as parts
 use Rattle.moving_record.proofs.all_in_turn.Statement.{statement}
 use Rattle.moving_record.proofs.all_in_turn.Tie as tie
 
 abbrev Inv-loop : tie.InvT-loop
-Inv-loop sheet ahead at left c₀ c = (c ≤ 16) × TurnsBefore (parts.steps sheet) (parts.zone sheet) ahead at left c
+Inv-loop sheet ahead at left c₀ c = (c ≤ 16) × Each (λ d. InTurn (parts.zone sheet) ahead left d (min (getD at d 0) (getD (parts.steps sheet) d 0))) c
 
 abbrev μ-loop : tie.MeasureT-loop
 μ-loop sheet ahead at left c₀ c = 16 - c
@@ -52,14 +55,9 @@ loop-less c = search needs
 loop-again : tie.Need-loop-again Inv-loop μ-loop
 loop-again c = (
   omega (arith, c .before .before .before .before .before .before .loop-test .taken),
-  turns-next
-      (parts.steps (c .before .before .before .before .before .before .before .before .args .sheet .now))
-      (parts.zone (c .before .before .before .before .before .before .before .before .args .sheet .now))
-      (c .before .before .before .before .before .before .before .before .args .ahead .now)
-      (c .before .before .before .before .before .before .before .before .args .at .now)
-      (c .before .before .before .before .before .before .before .before .args .left .now) _ _
-      (rw (c .before .before .before .before .wide .ensures .0, c .before .before .before .steps .ensures) at (c .before .before .least .ensures))
-      (c .before .before .before .before .before .before .before .loop .inv .1) (c .before .in-turn .ensures .0 (not-false _ (c .if1 .left))),
+  each-next _ _ (c .before .before .before .before .before .before .before .loop .inv .1)
+      (rw (c .before .before .least .ensures, c .before .before .before .before .wide .ensures .0, c .before .before .before .steps .ensures) at
+      (c .before .in-turn .ensures .0 (not-false _ (c .if1 .left)))),
 )
 
 returns-2 : tie.Need-returns-2 Inv-loop μ-loop

@@ -5,7 +5,7 @@ use mathlib.Core.Bool.{false≢true}
 use borrow.Author.Tests.{not-true, not-false}
 use native.Mathlib.Omega.{arith}
 use Rattle.moving_record.specs.inner.Tables.{InTurn}
-use Rattle.moving_record.proofs.Turns.{turn-next}
+use Rattle.moving_record.proofs.Each.{each-next}
 use borrow.Author.Needs.{needs}
 use Rattle.sheet_table.specs.inner.Parts as parts
 use Rattle.moving_record.proofs.in_turn.Statement.{statement}
@@ -48,10 +48,7 @@ loop-less c = search needs
 loop-again : tie.Need-loop-again Inv-loop μ-loop
 loop-again c = (
   omega (arith, c .before .before .loop-test .taken),
-  turn-next (parts.zone (c .before .before .before .before .args .sheet .now))
-      (c .before .before .before .before .args .ahead .now) (c .before .before .before .before .args .left .now)
-      (c .before .before .before .before .args .c) (c .before .before .before .loop .j) (c .before .before .before .loop .inv .1)
-      (c .before .may-enter .ensures .0 (not-false _ (c .if1 .left))),
+  each-next _ _ (c .before .before .before .loop .inv .1) (c .before .may-enter .ensures .0 (not-false _ (c .if1 .left))),
 )
 
 returns-2 : tie.Need-returns-2 Inv-loop μ-loop

@@ -5,14 +5,14 @@ use mathlib.Core.Bool.{false≢true}
 use lib.ListN.{getD}
 use Rattle.routes.specs.Moves.{movesOf}
 use native.Mathlib.Omega.{arith}
-use Rattle.moving_record.proofs.Positions.{NoneBefore, none-next}
+use Rattle.moving_record.proofs.Each.{Each, each-next}
 use borrow.Author.Needs.{needs}
 use Rattle.sheet_table.specs.inner.Parts as parts
 use Rattle.moving_record.proofs.none_past_out.Statement.{statement}
 use Rattle.moving_record.proofs.none_past_out.Tie as tie
 
 abbrev Inv-loop : tie.InvT-loop
-Inv-loop sheet at c₀ c = (c ≤ 16) × NoneBefore (parts.steps sheet) at c
+Inv-loop sheet at c₀ c = (c ≤ 16) × Each (λ d. getD at d 0 ≤ movesOf (getD (parts.steps sheet) d 0)) c
 
 abbrev μ-loop : tie.MeasureT-loop
 μ-loop sheet at c₀ c = 16 - c
@@ -63,9 +63,7 @@ loop-again c = let here : getD (c .before .before .before .before .before .befor
       ap movesOf (c .before .before .before .before .steps .ensures),
     ) in (
       omega (arith, c .before .before .before .before .before .loop-test .taken),
-      none-next
-          (parts.steps (c .before .before .before .before .before .before .before .args .sheet .now))
-          (c .before .before .before .before .before .before .before .args .at .now) _ (c .before .before .before .before .before .before .loop .inv .1) here,
+      each-next _ _ (c .before .before .before .before .before .before .loop .inv .1) here,
     )
 
 returns-2 : tie.Need-returns-2 Inv-loop μ-loop

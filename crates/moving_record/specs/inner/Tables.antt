@@ -1,4 +1,5 @@
--- The test of a record over tables: by the set of the carts ahead of each step, and the set of the carts that have left each zone.
+-- The test of a record over tables: by the set of the carts ahead of each step, the set of the carts that have left each zone,
+-- and who is next in front of each cart on its lane.
 use Prim.Native.Nat.{ℕ, _+_, _-_, _*_, _≤_, _<_, min}
 use mathlib.Core.Path.{_≡_}
 use mathlib.Core.Bool.{true, false}
@@ -9,7 +10,7 @@ use Rattle.sets.specs.inner.Member.{Within}
 use Rattle.routes.specs.Crossing.{Crossing, steps, zone}
 use Rattle.routes.specs.Moves.{movesOf, system}
 use Rattle.routes.specs.inner.Orders.{NamesOnce, OnlyVisitors}
-use Rattle.crossing.specs.inner.Tables.{crossingBy, LeftSet}
+use Rattle.crossing.specs.inner.Tables.{frontsBy, crossingBy, FrontGone, LeftSet}
 use Rattle.moving_record.specs.Record.{isReached}
 use Rattle.moving_record.specs.declared.Record.{Record}
 use Rattle.moving_record.specs.declared.Tested.{Tested}
@@ -37,12 +38,20 @@ module _ (zone ahead left : List ℕ) where
 abbrev pub AllInTurn : List ℕ → List ℕ → List ℕ → List ℕ → List ℕ → Type 0
 AllInTurn steps zone ahead at left = (c : ℕ) → c < 16 → InTurn zone ahead left c (min (getD at c 0) (getD steps c 0))
 
+-- by the table's entries, whoever is in front is one of 16 carts
+abbrev pub FrontsKnown : (ℕ → ℕ) → Type 0
+FrontsKnown front = (c : ℕ) → c < 16 → front c ≤ 16
+
+-- no cart has made its first move before the cart in front of it on its lane has
+abbrev pub AllInLine : (ℕ → ℕ) → List ℕ → Type 0
+AllInLine front at = (c : ℕ) → c < 16 → 0 < getD at c 0 → FrontGone (front c) at
+
 abbrev pub notReached : Tested
 notReached = record { reached = false; left = replicate 24 0 }
 
-module _ (stepTable zoneTable aheadTable : List ℕ) where
+module _ (stepTable zoneTable laneTable aheadTable : List ℕ) where
   abbrev X : Crossing
-  X = crossingBy stepTable zoneTable aheadTable
+  X = crossingBy stepTable zoneTable (frontsBy stepTable zoneTable laneTable) aheadTable
 
   -- what the test asks of tables
   pub record Orderly : Type 0 where

@@ -8,25 +8,22 @@ use Rattle.planner_groups.proofs.start_orders.Statement.{statement}
 use Rattle.planner_groups.proofs.start_orders.Tie as tie
 
 abbrev Inv-loop : tie.InvT-loop
-Inv-loop sheet visitors ahead₀ behind₀ pairs₀ mates x₀ ahead behind pairs x = (x ≤ 128) × StartedTo sheet visitors mates x ahead behind pairs
+Inv-loop sheet visitors ahead₀ behind₀ pairs₀ lanes x₀ ahead behind pairs x = (x ≤ 128) × StartedTo sheet visitors x ahead behind pairs
 
 abbrev μ-loop : tie.MeasureT-loop
-μ-loop sheet visitors ahead₀ behind₀ pairs₀ mates x₀ ahead behind pairs x = 128 - x
+μ-loop sheet visitors ahead₀ behind₀ pairs₀ lanes x₀ ahead behind pairs x = 128 - x
 
 lanes-requires : tie.Need-lanes-requires Inv-loop μ-loop
 lanes-requires c κs = search needs
 
 loop-holds : tie.Need-loop-holds Inv-loop μ-loop
-loop-holds c = (omega arith, started-none _ _ _ _ _ _ (c .before .pre))
+loop-holds c = (omega arith, started-none _ _ _ _ _ (c .before .pre))
 
 visiting-requires : tie.Need-visiting-requires Inv-loop μ-loop
 visiting-requires c κs = search needs
 
-mul-less : tie.Need-mul-less Inv-loop μ-loop
-mul-less c = search needs
-
-array-read-less : tie.Need-array-read-less Inv-loop μ-loop
-array-read-less c = search needs
+mates-requires : tie.Need-mates-requires Inv-loop μ-loop
+mates-requires c κs = search needs
 
 less-requires : tie.Need-less-requires Inv-loop μ-loop
 less-requires c κs = search needs
@@ -75,16 +72,16 @@ loop-again c =
     let new = parted _ _ _ _ _ _ _ _ _ (c .before .before .before .before .before .less .ensures) (c .before .before .before .before .less2 .ensures)
     (c .before .before .before .lower .ensures) (c .before .before .less3 .ensures) (c .before .less4 .ensures) (c .without .ensures) in (
       omega arith,
-      started-next _ _ _ _ _ _ _ _ _ _ _ (c .before .before .before .before .before .before .before .loop-test .taken)
-          (c .before .before .before .before .before .before .visiting .ensures)
-          (c .before .before .before .before .before .before .before .before .loop .inv .1) new,
+      started-next _ _ _ _ _ _ _ _ _ _ _ (c .before .before .before .before .before .before .before .before .before .loop-test .taken)
+          (c .before .before .before .before .before .before .before .before .visiting .ensures)
+          (c .before .before .before .before .before .before .mates .ensures)
+          (c .before .before .before .before .before .before .before .before .before .before .loop .inv .1) new,
     )
 
 returns : tie.Need-returns Inv-loop μ-loop
 returns c =
     let ends : c .before .loop .x ≡ 128 = omega arith in
-    starts _ _ _ _ _ _ (c .before .before .before .pre .routes) (c .before .before .before .pre .visitors-are) (c .before .before .lanes .ensures)
-    (rw ends at (c .before .loop .inv .1))
+    starts _ _ _ _ _ (c .before .before .before .pre .routes) (c .before .before .before .pre .visitors-are) (rw ends at (c .before .loop .inv .1))
 
 pub start-orders-spec : {M : Type 1} → statement M
 start-orders-spec =
@@ -95,8 +92,7 @@ start-orders-spec =
     lanes-requires
     loop-holds
     visiting-requires
-    mul-less
-    array-read-less
+    mates-requires
     less-requires
     less-requires-2
     lower-requires

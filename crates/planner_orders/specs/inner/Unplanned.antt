@@ -8,7 +8,7 @@ use Rattle.times.specs.inner.Times.{Ranged}
 use Rattle.sheet.specs.declared.Sheet.{Sheet}
 use Rattle.sheet_table.specs.inner.Parts as parts
 use Rattle.crossing.specs.Plans.{routeOf, givenBy}
-use Rattle.removal.specs.Pairs.{Unplanned}
+use Rattle.removal.specs.Pairs.{Unplanned, frontIn}
 use Rattle.removal.specs.inner.Plannable.{Plannable}
 
 abbrev pub unplannedBy : List ℕ → List ℕ → List ℕ → List ℕ → List ℕ → List ℕ → List ℕ → List ℕ → ℕ → ℕ → Unplanned
@@ -31,9 +31,9 @@ sheetUnplanned sheet =
     unplannedBy (sheet .steps) (sheet .zone) (sheet .lane) (sheet .arrival) (sheet .passing) (sheet .travel) (sheet .follow) (sheet .cross)
     (sheet .zones) (sheet .carts)
 
--- the routes, with a test of who goes before whom; and with no order present
+-- the routes and the lanes, with a test of who goes before whom; and with no order present
 abbrev pub ordered : Unplanned → (ℕ → ℕ → ℕ → Bool) → Crossing
-ordered U before = record { routes = U .routes; before = before }
+ordered U before = record { routes = U .routes; front = frontIn U; before = before }
 
 abbrev pub unordered : Unplanned → Crossing
 unordered U = ordered U (λ z d c. false)

@@ -36,19 +36,30 @@ decide-requires c κs = (
 )
 
 verdict-of-requires : tie.Need-verdict-of-requires
-verdict-of-requires c κs = opposite-runnable _ _ _ _ _ _ _ (c .before .before .before .before .before .before .before .before .before .pre .candidate) _ _ _ (rw (c .before .before .before .before .before .before .before .before .zone .ensures) at (c .before .before .before .decide .ensures)) (c .before .before .before .before .before .before .before .before .before .pre .ranks, c .before .before .before .before .before .before .before .before .before .pre .pairs, c .before .before .before .before .before .before .before .before .before .pre .underway) _ (c .before .before .before .before .before .before .before .before .before .pre .order-144)
+verdict-of-requires c κs = opposite-runnable _ _ _ _ _ _ _ (c .before .before .before .before .before .before .before .before .before .pre .candidate) _ _ _
+    (rw (c .before .before .before .before .before .before .before .before .zone .ensures) at (c .before .before .before .decide .ensures)) (
+      c .before .before .before .before .before .before .before .before .before .pre .ranks,
+      c .before .before .before .before .before .before .before .before .before .pre .pairs,
+      c .before .before .before .before .before .before .before .before .before .pre .underway,
+    ) _
+    (c .before .before .before .before .before .before .before .before .before .pre .order-144)
 
 returns : tie.Need-returns
-returns c = opposite-decided _ _ _ _ _ _ _ (c .before .before .before .before .before .before .before .before .before .before .before .pre .candidate) _ _ _ (rw (c .before .before .before .before .before .before .before .before .before .before .zone .ensures) at (c .before .before .before .before .before .decide .ensures)) _ _ _ (c .before .verdict-of .ensures) (c .if1 .taken)
+returns c = opposite-decided _ _ _ _ _ _ _ (c .before .before .before .before .before .before .before .before .before .before .before .pre .candidate) _ _ _
+    (rw (c .before .before .before .before .before .before .before .before .before .before .zone .ensures) at
+    (c .before .before .before .before .before .decide .ensures)) _ _ _ (c .before .verdict-of .ensures) (c .if1 .taken)
 
 turn-round-requires : tie.Need-turn-round-requires
-turn-round-requires c κs = (omega (arith, c .before .before .before .before .before .before .before .before .before .before .before .before .before .pre .underway .told .places .below (16 * c .before .before .before .before .before .before .before .before .before .before .before .before .zone .result + c .before .before .before .before .before .before .before .before .before .before .before .before .before .args .first)), c .before .before .before .before .before .before .before .before .before .before .before .before .before .pre .candidate .step-below)
+turn-round-requires c κs =
+    (omega (arith, c .before .before .before .before .before .before .before .before .before .before .before .before .before .pre .underway .told .places .below (16 * c .before .before .before .before .before .before .before .before .before .before .before .before .zone .result + c .before .before .before .before .before .before .before .before .before .before .before .before .before .args .first)), c .before .before .before .before .before .before .before .before .before .before .before .before .before .pre .candidate .step-below)
 
 verdict-of-requires-2 : tie.Need-verdict-of-requires-2
-verdict-of-requires-2 c κs = this-runnable _ _ _ _ _ _ _ (c .before .before .before .before .before .before .before .before .before .before .before .before .before .before .before .before .before .pre .candidate) _ _ _ (rw (c .before .before .before .before .before .before .before .before .before .before .before .before .before .before .before .before .zone .ensures) at (c .before .before .before .before .before .before .before .before .before .before .before .decide .ensures)) _ _ _ (c .before .before .before .before .before .before .before .verdict-of .ensures) (c .before .before .before .before .before .before .if1 .left) _ _ (rw (c .before .before .before .before .before .before .before .before .before .before .before .before .before .before .before .before .zone .ensures) at (c .before .before .before .turn-round .ensures)) (c .before .before .before .before .before .before .before .before .before .before .before .before .before .before .before .before .before .pre .ranks, c .before .before .before .before .before .before .before .before .before .before .before .before .before .before .before .before .before .pre .pairs, c .before .before .before .before .before .before .before .before .before .before .before .before .before .before .before .before .before .pre .underway)
+verdict-of-requires-2 c κs = this-runnable _ _ _ _ _ _ _
+    (c .before .before .before .before .before .before .before .before .before .before .before .before .before .before .before .before .before .pre .candidate) _ _ _ (rw (c .before .before .before .before .before .before .before .before .before .before .before .before .before .before .before .before .zone .ensures) at (c .before .before .before .before .before .before .before .before .before .before .before .decide .ensures)) _ _ _ (c .before .before .before .before .before .before .before .verdict-of .ensures) (c .before .before .before .before .before .before .if1 .left) _ _ (rw (c .before .before .before .before .before .before .before .before .before .before .before .before .before .before .before .before .zone .ensures) at (c .before .before .before .turn-round .ensures)) (c .before .before .before .before .before .before .before .before .before .before .before .before .before .before .before .before .before .pre .ranks, c .before .before .before .before .before .before .before .before .before .before .before .before .before .before .before .before .before .pre .pairs, c .before .before .before .before .before .before .before .before .before .before .before .before .before .before .before .before .before .pre .underway)
 
 returns-2 : tie.Need-returns-2
-returns-2 c = this-decided _ _ _ _ _ _ _ (c .before .before .before .before .before .before .before .before .before .before .before .before .before .before .before .before .before .before .pre .candidate) _ _ _ (rw (c .before .before .before .before .before .before .before .before .before .before .before .before .before .before .before .before .before .zone .ensures) at (c .before .before .before .before .before .before .before .before .before .before .before .before .decide .ensures)) _ _ _ (c .before .before .before .before .before .before .before .before .verdict-of .ensures) (c .before .before .before .before .before .before .before .if1 .left) _ _ (rw (c .before .before .before .before .before .before .before .before .before .before .before .before .before .before .before .before .before .zone .ensures) at (c .before .before .before .before .turn-round .ensures)) _ _ _ (c .verdict-of2 .ensures)
+returns-2 c = this-decided _ _ _ _ _ _ _
+    (c .before .before .before .before .before .before .before .before .before .before .before .before .before .before .before .before .before .before .pre .candidate) _ _ _ (rw (c .before .before .before .before .before .before .before .before .before .before .before .before .before .before .before .before .before .zone .ensures) at (c .before .before .before .before .before .before .before .before .before .before .before .before .decide .ensures)) _ _ _ (c .before .before .before .before .before .before .before .before .verdict-of .ensures) (c .before .before .before .before .before .before .before .if1 .left) _ _ (rw (c .before .before .before .before .before .before .before .before .before .before .before .before .before .before .before .before .before .zone .ensures) at (c .before .before .before .before .turn-round .ensures)) _ _ _ (c .verdict-of2 .ensures)
 
 pub decide-either-spec : {M : Type 1} → statement M
 decide-either-spec =

@@ -13,10 +13,15 @@ verdict-of-requires c κs = opened-runnable _ _ _ _ _ _ _ _ _ (c .before .before
     (c .before .before .before .open-group .ensures) _ refl
 
 try-pairs-requires : tie.Need-try-pairs-requires
-try-pairs-requires c κs = opened-trial _ _ _ _ _ _ _ _ _ (c .before .before .before .before .before .before .before .before .before .before .before .before .before .pre) _ _ _ (c .before .before .before .before .before .before .before .before .before .open-group .ensures) _ _ _ (c .before .before .before .before .before .verdict-of .ensures)
+try-pairs-requires c κs = opened-trial _ _ _ _ _ _ _ _ _
+    (c .before .before .before .before .before .before .before .before .before .before .before .before .before .pre) _ _ _
+    (c .before .before .before .before .before .before .before .before .before .open-group .ensures) _ _ _
+    (c .before .before .before .before .before .verdict-of .ensures)
 
 returns : tie.Need-returns
-returns c = opened-tried _ _ _ _ _ _ _ _ _ (c .before .before .before .before .before .before .before .before .before .before .before .before .before .before .pre) _ _ _ (c .before .before .before .before .before .before .before .before .before .before .open-group .ensures) _ _ _ _ (c .try-pairs .ensures)
+returns c = opened-tried _ _ _ _ _ _ _ _ _
+    (c .before .before .before .before .before .before .before .before .before .before .before .before .before .before .pre) _ _ _
+    (c .before .before .before .before .before .before .before .before .before .before .open-group .ensures) _ _ _ _ (c .try-pairs .ensures)
 
 pub try-opened-spec : {M : Type 1} → statement M
 try-opened-spec =

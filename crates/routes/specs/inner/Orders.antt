@@ -7,6 +7,7 @@ use lib.Dec.{ltb}
 use Rattle.routes.specs.inner.Lists.{Distinct}
 use Rattle.routes.specs.Crossing.{Crossing, route}
 use Rattle.routes.specs.inner.Crossing.{Visits}
+use Rattle.routes.specs.Lanes.{isFront}
 
 module _ (X : Crossing) where
   -- "A route names a zone at most once."
@@ -25,9 +26,13 @@ module _ (X : Crossing) where
   abbrev pub ByRank : (ℕ → ℕ) → Type 0
   ByRank rank = (z d c : ℕ) → X .before z d c ≡ true → rank d < rank c
 
+  -- and so do the lanes: whoever is next in front has a lower rank
+  abbrev pub LanesRise : (ℕ → ℕ) → Type 0
+  LanesRise rank = (d c : ℕ) → isFront X d c ≡ true → rank d < rank c
+
   -- the same routes, with the orders among carts of rank below `low` only
   abbrev pub ordersBelow : (ℕ → ℕ) → ℕ → Crossing
-  ordersBelow rank low = record { routes = X .routes; before = λ z d c. (ltb (rank d) low && ltb (rank c) low) && X .before z d c }
+  ordersBelow rank low = record { routes = X .routes; front = X .front; before = λ z d c. (ltb (rank d) low && ltb (rank c) low) && X .before z d c }
 
 -- a test of pairs puts the members in a strict order
 pub record StrictOrder (Member : ℕ → Type 0) (before : ℕ → ℕ → Bool) : Type 0 where

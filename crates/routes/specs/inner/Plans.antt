@@ -5,9 +5,7 @@ use mathlib.Core.List.{List, []}
 use lib.ListN.{length, getD}
 use Rattle.routes.specs.Lists.{allBelow, isNamed}
 use Rattle.routes.specs.inner.Lists.{Named, allNamed, Distinct, isDistinct}
-use Rattle.routes.specs.inner.Crossing.{Visits}
-use Rattle.routes.specs.inner.Orders.{NamesOnce}
-use Rattle.routes.specs.Plans.{listOf, plan}
+use Rattle.routes.specs.Plans.{listOf}
 
 -- whether each list names, once each, only numbers whose list among the others names its own number
 abbrev pub nameBack : List (List ℕ) → List (List ℕ) → Bool
@@ -17,10 +15,10 @@ nameBack lists others =
 module _ (routes lists : List (List ℕ)) where
   -- "Each zone lists exactly the carts whose routes name it, once each." "A route names a zone at most once."
   pub record Complete : Type 0 where
-    pub only-visitors : (z c : ℕ) → Named (listOf lists z) c → Visits (plan routes lists) c z
-    pub all-visitors : (z c : ℕ) → Visits (plan routes lists) c z → Named (listOf lists z) c
+    pub only-visitors : (z c : ℕ) → Named (listOf lists z) c → Named (getD routes c []) z
+    pub all-visitors : (z c : ℕ) → Named (getD routes c []) z → Named (listOf lists z) c
     pub once : (z : ℕ) → Distinct (listOf lists z)
-    pub route-once : NamesOnce (plan routes lists)
+    pub route-once : (c : ℕ) → Distinct (getD routes c [])
 
   -- the test of Complete
   unfoldable pub isComplete : Bool

@@ -1,4 +1,4 @@
-//! Document 01's sheets, plans and moves in the plainest form, and random ones: nothing here calls the library.
+//! Document 01's sheets, plans and moves with #102's stop line in the plainest form, and random ones: nothing here calls the library.
 use crate::numbers::Numbers;
 use oblakosh::{Moved, NotMoved, Record, Refusal, CARTS};
 use std::collections::HashSet;
@@ -226,6 +226,12 @@ impl Crossing {
         at[cart] > step.unwrap() + 1
     }
 
+    /// Whether the cart waits at the stop line for the next lower-numbered cart of its lane.
+    fn held_by_lane(&self, at: &[usize], cart: usize) -> bool {
+        let front = (0..cart).rfind(|other| self.lanes[*other] == self.lanes[cart]);
+        at[cart] == 0 && front.is_some_and(|front| at[front] == 0)
+    }
+
     /// How many carts ahead have not left the zone.
     fn ahead(&self, at: &[usize], cart: usize, zone: usize) -> usize {
         let list = &self.lists[zone];
@@ -237,7 +243,8 @@ impl Crossing {
     }
 
     /// What a request is answered in a position that a run reaches: 24, 25, 26 or done. "A move into a zone is permitted
-    /// when every cart ahead in that zone's list has left it. The move out is always permitted."
+    /// when every cart ahead in that zone's list has left it. The move out is always permitted." "A cart's first move now
+    /// also waits until the next lower-numbered cart of its lane has made its first move".
     pub fn answer(&self, at: &[usize], cart: usize) -> Result<Moved, NotMoved> {
         if cart >= self.carts() {
             return refused(24);
@@ -245,12 +252,15 @@ impl Crossing {
         if at[cart] == self.out(cart) {
             return refused(25);
         }
-        match self.wanted(at, cart).map(|zone| self.ahead(at, cart, zone)) {
-            None | Some(0) => Ok(Moved {
+        let in_zone = self
+            .wanted(at, cart)
+            .map_or(0, |zone| self.ahead(at, cart, zone));
+        match in_zone + usize::from(self.held_by_lane(at, cart)) {
+            0 => Ok(Moved {
                 position: at[cart] as u8 + 1,
                 made: at.iter().sum::<usize>() as u32 + 1,
             }),
-            Some(ahead) => Err(NotMoved::Held(ahead as u32)),
+            held => Err(NotMoved::Held(held as u32)),
         }
     }
 

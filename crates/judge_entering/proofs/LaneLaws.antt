@@ -9,24 +9,24 @@ use lib.ListN.{length, getD, set, replicate}
 use lib.Dec.{ltb, eqb}
 use borrow.Author.Tests.{lt-ltb, le-ltb, eq-eqb, ne-eqb}
 use Rattle.words.specs.Lists.{pick, entries}
-use Rattle.words.proofs.Entries.{length-entries, at-entry, zeros-are, same-entries, put-entry}
+use Rattle.words.proofs.Entries.{at-entry, zeros-are, same-entries, put-entry}
 use Rattle.sets.specs.inner.Member.{has, With}
 use Rattle.sets.specs.Counting.{setBelow}
 use Rattle.sets.proofs.Counting.{has-set, set-with, set-as-before}
-use Rattle.routes.specs.Crossing.{route, steps}
+use Rattle.routes.specs.Crossing.{steps}
 use Rattle.routes.specs.Lanes.{highest, isOnLane, nextInFront}
 use Rattle.sheet_table.specs.inner.Parts as parts
 use Rattle.crossing.specs.Plans.{routeOf}
 use Rattle.crossing.specs.inner.Tables.{crossingBy, frontsOf}
 use Rattle.crossing.proofs.Tables.{steps-is}
-use Rattle.crossing.proofs.Fronts.{fronts-are, fronts-absent, front-lower}
+use Rattle.crossing.proofs.Fronts.{fronts-are, fronts-absent}
 use Rattle.judge_entering.specs.inner.Lanes.{onLane, matesOf, lanesOf, frontAt}
 
 module _ (sheet : List ℕ) where
-  abbrev laneOf : ℕ → ℕ
+  abbrev pub laneOf : ℕ → ℕ
   laneOf c = getD (parts.lane sheet) c 0
 
-  abbrev routes : List (List ℕ)
+  abbrev pub routes : List (List ℕ)
   routes = entries 16 0 (routeOf (parts.steps sheet) (parts.zone sheet))
 
   -- ---- the table while it is filled: the sets have n carts, the fronts m
@@ -100,7 +100,7 @@ module _ (sheet : List ℕ) where
   unfolding latestOn highest
   latest-next c l = let next : c + 1 ≡ suc c = omega arith in rw next
 
-  has-steps : (c : ℕ) → c < 16 → length (getD routes c []) ≡ getD (parts.steps sheet) c 0
+  pub has-steps : (c : ℕ) → c < 16 → length (getD routes c []) ≡ getD (parts.steps sheet) c 0
   unfolding crossingBy
   has-steps = steps-is (parts.steps sheet) (parts.zone sheet) [] []
 

@@ -12,10 +12,9 @@ use Rattle.sets.specs.inner.Member.{has, Less, Lowest, Rest}
 use Rattle.sets.proofs.Laws.{has-none, without-gone, without-other}
 use Rattle.times.specs.Times.{largest}
 use Rattle.times.proofs.Largest.{largest-most, largest-least, largest-same}
-use Rattle.sheet_table.specs.inner.Parts.{follow, cross, lane, zone}
+use Rattle.sheet_table.specs.inner.Parts.{follow, cross, zone}
 use Rattle.crossing.specs.Plans.{givenBy}
 use Rattle.judge_entering.specs.inner.Times.{clearBy, clearOf, latest, Enterable}
-use Rattle.judge_entering.proofs.LaneLaws.{in-own}
 
 module _ (rule : ℕ → ℕ) where
   -- the members' times
@@ -70,14 +69,14 @@ largest-both rule other zero = refl
 largest-both rule other (suc n) = omega (arith, largest-both rule other n)
 
 -- a member is in one part or in the other
-part-of : (member mine : Bool) (time near far : ℕ) → (mine ≡ true → time ≡ near) → (mine ≡ false → time ≡ far)
+part-of : (member mine : Bool) (time near far : ℕ) → (member ≡ true → mine ≡ true → time ≡ near) → (member ≡ true → mine ≡ false → time ≡ far)
     → pick member time 0 ≡ max (pick (member && not (member && not mine)) near 0) (pick (member && not mine) far 0)
-part-of true true time near far is-near is-far = omega (arith, is-near refl)
-part-of true false time near far is-near is-far = omega (arith, is-far refl)
+part-of true true time near far is-near is-far = omega (arith, is-near refl refl)
+part-of true false time near far is-near is-far = omega (arith, is-far refl refl)
 part-of false mine time near far is-near is-far = refl
 
 -- the latest over the carts of the same lane, by the follow gap, and then over the others, by the cross gap
-module _ (sheet : List ℕ) (mates : ℕ) (leave : List ℕ) (x c : ℕ) (enterable : Enterable sheet mates leave x c) where
+module _ (sheet ahead : List ℕ) (mates : ℕ) (leave : List ℕ) (x c : ℕ) (enterable : Enterable sheet ahead mates leave x c) where
   abbrev z : ℕ
   z = getD (zone sheet) x 0
 
@@ -87,17 +86,20 @@ module _ (sheet : List ℕ) (mates : ℕ) (leave : List ℕ) (x c : ℕ) (entera
   abbrev far : ℕ → ℕ
   far = clearBy leave z (getD (cross sheet) z 0)
 
-  gap-is : (d : ℕ) → d < 16 → (b : Bool) → has mates d ≡ b
+  abbrev members : ℕ
+  members = getD ahead x 0
+
+  gap-is : (d : ℕ) (b : Bool) → has members d ≡ true → has mates d ≡ b
       → clearOf sheet leave z c d ≡ clearBy leave z (pick b (getD (follow sheet) z 0) (getD (cross sheet) z 0)) d
   unfolding givenBy
-  gap-is d l b e =
+  gap-is d b member e =
       ap (λ (t : Bool). clearBy leave z (pick t (getD (follow sheet) z 0) (getD (cross sheet) z 0)) d)
-      (sym (in-own sheet c d l) ∙ rw (enterable .mates-are) at e)
+      (sym (enterable .mates-are d member) ∙ e)
 
-  parts-latest : (members others mine ready clear time : ℕ) → Less members mates others → Less members others mine
+  parts-latest : (others mine ready clear time : ℕ) → Less members mates others → Less members others mine
       → clear ≡ latest near mine ready → time ≡ latest far others clear → time ≡ latest (clearOf sheet leave z c) members ready
   unfolding latest
-  parts-latest members others mine ready clear time are-others are-mine clear-is time-is =
+  parts-latest others mine ready clear time are-others are-mine clear-is time-is =
       omega (
         arith,
         largest-same (of (clearOf sheet leave z c) members) (λ d. max (of near mine d) (of far others d)) 16 parted,
@@ -107,11 +109,11 @@ module _ (sheet : List ℕ) (mates : ℕ) (leave : List ℕ) (x c : ℕ) (entera
       parted : (d : ℕ) → d < 16 → of (clearOf sheet leave z c) members d ≡ max (of near mine d) (of far others d)
       parted d l =
           rw (are-mine d, are-others d)
-          (part-of (has members d) (has mates d) (clearOf sheet leave z c d) (near d) (far d) (gap-is d l true) (gap-is d l false))
+          (part-of (has members d) (has mates d) (clearOf sheet leave z c d) (near d) (far d) (gap-is d true) (gap-is d false))
 
   -- with the zone and the gaps as they are read
-  pub latest-parts : (y f k members others mine ready clear time : ℕ) → y ≡ z → f ≡ getD (follow sheet) y 0 → k ≡ getD (cross sheet) y 0
+  pub latest-parts : (y f k others mine ready clear time : ℕ) → y ≡ z → f ≡ getD (follow sheet) y 0 → k ≡ getD (cross sheet) y 0
       → Less members mates others → Less members others mine → clear ≡ latest (clearBy leave y f) mine ready
       → time ≡ latest (clearBy leave y k) others clear → time ≡ latest (clearOf sheet leave z c) members ready
-  latest-parts y f k members others mine ready clear time y-is f-is k-is are-others are-mine clear-is time-is =
-      parts-latest members others mine ready clear time are-others are-mine (rw (f-is, y-is) at clear-is) (rw (k-is, y-is) at time-is)
+  latest-parts y f k others mine ready clear time y-is f-is k-is are-others are-mine clear-is time-is =
+      parts-latest others mine ready clear time are-others are-mine (rw (f-is, y-is) at clear-is) (rw (k-is, y-is) at time-is)

@@ -9,10 +9,20 @@ ghost use Prim.Native.Nat.{ℕ, _≤_, _<_, max};
 ghost use lib.ListN.{getD, set};
 ghost use Rattle.words.specs.Limits.{mostTime};
 ghost use Rattle.words.specs.inner.Limits.{latestLeaving};
+ghost use Rattle.sets.specs.inner.Member.{has};
 ghost use Rattle.routes.specs.Lanes.{laneHolds};
 ghost use Rattle.sheet_table.specs.inner.Parts.{lane, zone};
 ghost use Rattle.crossing.specs.inner.Tables.{crossingOf, FrontGone};
-ghost use Rattle.judge_entering.specs.inner.Lanes.{lanesOf, matesOf, frontAt, frontTime};
+ghost use Rattle.judge_entering.specs.inner.Lanes.{
+  lanesOf,
+  matesOf,
+  frontAt,
+  presentLanes,
+  memberBefore,
+  Foremost,
+  NextBehind,
+  frontTime,
+};
 ghost use Rattle.judge_entering.specs.inner.Times.{clearBy, clearOf, latest, AtMost, Enterable};
 
 // For each lane the set of the carts on it; then, from 16 on, for each cart one more than the cart next in front of it, 0 where there is none.
@@ -45,6 +55,44 @@ pub fn mates(sheet: &Table, lanes: &Lanes, c: usize) -> u16
     ensures { λ r. ⌜ r ≡ matesOf (now (sheet .entry)) c ⌝ }
 {
     lanes[sheet_table::lane(sheet, c)]
+}
+
+// For each lane the set of the carts on it; an absent cart is on none.
+pub fn present_lanes(sheet: &Table) -> [u16; 16]
+    requires { ⌜ AtMost 15 (lane (now sheet)) ⌝ }
+    ensures { λ r. ⌜ r ≡ presentLanes (now (sheet .entry)) ⌝ }
+{
+    let mut on = [0u16; 16];
+    let mut c = 0;
+    while c < 16 {
+        if 0 < sheet_table::steps(sheet, c) {
+            let l = sheet_table::lane(sheet, c);
+            on[l] = carts::with(on[l], c);
+        }
+        c += 1;
+    }
+    on
+}
+
+// The set of the carts that have nobody in front of them on their lane.
+pub fn foremost(on: &[u16; 16]) -> u16
+    ensures { λ r. ⌜ Foremost (now (on .entry)) 16 r ⌝ }
+{
+    let mut set = 0;
+    let mut l = 0;
+    while l < 16 {
+        set = carts::joined(set, carts::first(on[l]));
+        l += 1;
+    }
+    set
+}
+
+// The set of the cart next behind cart c, of the carts on its lane.
+pub fn next_behind(mates: u16, c: usize) -> u16
+    requires { ⌜ (c < 16) × (has mates c ≡ true) ⌝ }
+    ensures { λ r. ⌜ NextBehind mates c r ⌝ }
+{
+    carts::first(carts::less(mates, carts::below(mates, c + 1)))
 }
 
 fn number(value: u16) -> usize
@@ -92,16 +140,16 @@ pub fn later(a: u32, b: u32) -> u32
     if a < b { b } else { a }
 }
 
-// The first entering time of the cart next in front of cart c; 0 where there is none.
-pub fn front_enters(lanes: &Lanes, enter: &[u32; 128], c: usize) -> u32
-    requires { ⌜ (c < 16) × (frontAt (now lanes) c ≤ 16) ⌝ }
-    ensures { λ r. ⌜ r ≡ frontTime (frontAt (now (lanes .entry)) c) (now (enter .entry)) ⌝ }
+// The first entering time of the cart next in front of cart c, of the carts on its lane; 0 where there is none.
+pub fn front_enters(mates: u16, enter: &[u32; 128], c: usize) -> u32
+    requires { ⌜ c < 16 ⌝ }
+    ensures { λ r. ⌜ r ≡ frontTime (memberBefore mates c) (now (enter .entry)) ⌝ }
 {
-    let f = front(lanes, c);
-    if f == 0 {
+    let lower = carts::below(mates, c);
+    if lower == 0 {
         return 0;
     }
-    enter[8 * (f - 1)]
+    enter[8 * carts::highest(lower)]
 }
 
 // The latest of a time and the times at which the gap is over behind each cart of a set, all of which have left zone z.
@@ -120,7 +168,7 @@ fn latest_clear(leave: &[u32; 384], z: usize, gap: u32, members: u16, ready: u32
 }
 
 // Cart c enters the zone of its step at x as soon as it is ready and clear of every cart ahead; answers the time.
-// `mates` are the carts on its lane.
+// `mates` are the carts on its lane; absent ones are never ahead.
 pub fn enter_zone(
     sheet: &Table,
     ahead: &[u16; 128],
@@ -131,7 +179,7 @@ pub fn enter_zone(
     c: usize,
     ready: u32,
 ) -> u32
-    requires { ⌜ Enterable (now sheet) mates (now leave) x c ⌝ }
+    requires { ⌜ Enterable (now sheet) (now ahead) mates (now leave) x c ⌝ }
     ensures { λ r.
         ⌜ (r ≡ latest (clearOf (now (sheet .entry)) (now (leave .entry)) (getD (zone (now (sheet .entry))) x 0) c)
         (getD (now (ahead .entry)) x 0) ready) × (now (enter .exit) ≡ set (now (enter .entry)) x r) ⌝ }

@@ -1,25 +1,21 @@
 -- The table's entry for the cart in front tells its first entering time as the rule does.
-use Prim.Native.Nat.{ℕ, zero, suc, _+_, _*_, _-_, _≤_, _<_}
-use mathlib.Core.Path.{_≡_, refl, sym, ap, _∙_}
-use mathlib.Core.Bool.{Bool, true, false, true≢false}
-use mathlib.Core.Logic.{_↔_, Iff·rfl}
-use mathlib.Core.List.{List, []}
+use Prim.Native.Nat.{ℕ, zero, suc, _+_, _*_, _-_}
+use mathlib.Core.Path.{_≡_, refl, sym}
+use mathlib.Core.Bool.{Bool, true, false}
+use mathlib.Core.List.{List}
 use native.Mathlib.Omega.{arith}
 use lib.ListN.{getD}
-use lib.Dec.{ltb}
 use borrow.Author.Tests.{ne-eqb}
 use Rattle.words.specs.Lists.{pick}
-use Rattle.words.proofs.Tests.{ltb-says}
 use Rattle.routes.specs.Crossing.{Crossing}
 use Rattle.routes.specs.Lanes.{isFront}
 use Rattle.routes.proofs.Lanes.{front-says}
 use Rattle.times.specs.Times.{frontEnters}
 use Rattle.times.proofs.Fronts.{front-is}
 use Rattle.sheet_table.specs.inner.Parts as parts
-use Rattle.crossing.specs.inner.Tables.{frontsOf, crossingBy, crossingOf, FrontGone}
+use Rattle.crossing.specs.inner.Tables.{frontsOf, crossingBy, crossingOf}
 use Rattle.crossing.proofs.Fronts.{front-lower}
-use Rattle.judge_entering.specs.inner.Lanes.{lanesOf, frontAt, frontTime}
-use Rattle.judge_entering.proofs.LaneLaws.{front-entry}
+use Rattle.judge_entering.specs.inner.Lanes.{frontTime}
 use Rattle.judge_entering.specs.Times.{timesOf}
 
 module _ (sheet ahead enter : List ℕ) (c : ℕ) where

@@ -1,7 +1,7 @@
 -- The moves over tables: whether a zone may be entered, and the three kinds of moves in the shape in which the code makes them.
 use Prim.Native.Nat.{ℕ, suc, _+_, _*_, _-_, _≤_, _<_, max}
 use mathlib.Core.Path.{_≡_, refl, sym, ap, _∙_}
-use mathlib.Core.Logic.{_↔_, Iff·symm}
+use mathlib.Core.Logic.{_↔_}
 use mathlib.Core.Bool.{Bool, true, false, false≢true}
 use mathlib.Core.List.{List}
 use native.Mathlib.Omega.{arith}
@@ -22,12 +22,12 @@ use Rattle.times.proofs.Largest.{largest-same}
 use Rattle.sheet_table.specs.inner.Parts as parts
 use Rattle.crossing.specs.inner.Tables.{frontsOf, crossingOf, givenOf}
 use Rattle.crossing.specs.Plans.{givenBy}
-use Rattle.crossing.proofs.Tables.{routes-16, steps-is, zone-is, before-is}
+use Rattle.crossing.proofs.Tables.{routes-16, step-below, steps-is, zone-is, before-is}
 use Rattle.crossing.proofs.Permitted.{permitted-within, into-permitted, started-free, out-permitted}
-use Rattle.judge_entering.specs.inner.Lanes.{matesOf, lanesOf, frontAt, frontTime}
+use Rattle.judge_entering.specs.inner.Lanes.{presentMates, memberBefore, frontTime}
 use Rattle.judge_entering.specs.Times.{timesOf}
 use Rattle.judge_entering.specs.inner.Times.{clearOf, latest, Enterable}
-use Rattle.judge_entering.proofs.LaneLaws.{front-entry}
+use Rattle.judge_entering.proofs.Sides.{mates-say, before-front}
 use Rattle.judge_one_move.specs.inner.Standing.{Standing}
 use Rattle.judge_one_move.specs.inner.Running.{ZoneLeft, GoneIn, CanGoOn, GoneOn, CanGoOut, Running}
 use Rattle.judge_one_move.proofs.Fronts.{front-enters}
@@ -123,13 +123,22 @@ module _ (sheet ahead at left : List ℕ) (standing : Standing (crossingOf sheet
 
     -- into a zone, by its step at x
     module _ (below : p < k) (x : ℕ) (x-is : x ≡ 8 * c + p) where
-      pub x-enterable : (mates : ℕ) → mates ≡ matesOf sheet c → Enterable sheet mates leave x c
+      -- whoever is ahead has steps
+      ahead-present : (d : ℕ) → has (getD ahead x 0) d ≡ true → (d < 16) × (0 < getD (parts.steps sheet) d 0)
+      ahead-present d member =
+          let (j, is-step, _) = run .sound .only (zone X c p) d c
+          (before-is (parts.steps sheet) (parts.zone sheet) (frontsOf sheet) ahead c l (run .sound .once) p d (zone X c p) (inside p below) refl ∙ rw x-is at
+          member) in
+          let few : d < 16 = step-below (parts.steps sheet) (parts.zone sheet) (frontsOf sheet) ahead d j is-step in
+          (few, omega (arith, is-step, steps-is (parts.steps sheet) (parts.zone sheet) (frontsOf sheet) ahead d few))
+
+      pub x-enterable : (mates : ℕ) → mates ≡ presentMates sheet c → Enterable sheet ahead mates leave x c
       unfolding givenBy
       x-enterable mates mates-are = record {
         step-128 = x-few below x x-is .0;
         cart-16 = l;
         zone-24 = x-few below x x-is .1;
-        mates-are = mates-are;
+        mates-are = λ d member. let (few, some) = ahead-present d member in rw mates-are (mates-say sheet c d few some);
         follow-most = run .sound .ranged .follow-most;
         cross-most = run .sound .ranged .cross-most;
         leave-most = run .leave-most;
@@ -163,10 +172,10 @@ module _ (sheet ahead at left : List ℕ) (standing : Standing (crossingOf sheet
         latest-entering own time own-is time-is = rw (x-is, ← zone-at p below) at time-is ∙ latest-here own own-is
 
         -- from the lane into the first
-        pub first-moved : p ≡ 0 → (lanes entered : List ℕ) → lanes ≡ lanesOf sheet → GoneIn sheet lanes ahead leave enter entered c
+        pub first-moved : p ≡ 0 → (mates : ℕ) (entered : List ℕ) → mates ≡ presentMates sheet c → GoneIn sheet ahead mates leave enter entered c
             → Running X G (moved at c) left leave entered
         unfolding givenBy
-        first-moved at-start lanes entered lanes-are gone =
+        first-moved at-start mates entered mates-are gone =
             rw (gone .entered-is)
             (running-first X G at left leave enter run c m (8 * c) (gone .time) (omega (arith, inside p below)) at-start refl
             (latest-entering _ (gone .time) (own-first ∙ ap (ready X G (timesOf enter) c) (sym at-start)) (rw first at (gone .time-is))))
@@ -174,8 +183,9 @@ module _ (sheet ahead at left : List ℕ) (standing : Standing (crossingOf sheet
             first : 8 * c ≡ x
             first = omega arith
 
-            own-first : max (getD (parts.arrival sheet) c 0) (frontTime (frontAt lanes c) enter) ≡ ready X G (timesOf enter) c 0
-            own-first = ap (max (getD (parts.arrival sheet) c 0)) (rw (lanes-are, front-entry sheet c l) (front-enters sheet ahead enter c))
+            own-first : max (getD (parts.arrival sheet) c 0) (frontTime (memberBefore mates c) enter) ≡ ready X G (timesOf enter) c 0
+            own-first =
+                ap (max (getD (parts.arrival sheet) c 0)) (rw (mates-are, before-front sheet c l (omega (arith, below))) (front-enters sheet ahead enter c))
 
         -- from a zone into the next
         module _ (under-way : 0 < p) where
@@ -189,7 +199,7 @@ module _ (sheet ahead at left : List ℕ) (standing : Standing (crossingOf sheet
           step : suc j ≡ p
           step = omega arith
 
-          pub can-go-on : (mates : ℕ) → mates ≡ matesOf sheet c → CanGoOn sheet mates left leave enter c x
+          pub can-go-on : (mates : ℕ) → mates ≡ presentMates sheet c → CanGoOn sheet ahead mates left leave enter c x
           can-go-on mates mates-are = record {
             enterable = x-enterable mates mates-are;
             not-first = omega arith;

@@ -10,7 +10,7 @@ use sheet_table::wide;
 ghost use mathlib.Core.Path.{_≡_};
 ghost use mathlib.Core.Logic.{_↔_};
 ghost use mathlib.Core.Bool.{true};
-ghost use Prim.Native.Nat.{_≤_, _<_, _+_, _*_};
+ghost use Prim.Native.Nat.{_<_, _+_, _*_};
 ghost use lib.ListN.{length, getD};
 ghost use Rattle.sets.specs.inner.Member.{Within};
 ghost use Rattle.moves.specs.System.{pos};
@@ -18,7 +18,7 @@ ghost use Rattle.moves.specs.Moves.{Permitted};
 ghost use Rattle.routes.specs.Moves.{system};
 ghost use Rattle.sheet_table.specs.inner.Parts.{steps, zone, passing};
 ghost use Rattle.crossing.specs.inner.Tables.{crossingOf};
-ghost use Rattle.judge_entering.specs.inner.Lanes.{lanesOf, frontAt};
+ghost use Rattle.judge_entering.specs.inner.Lanes.{lanesOf};
 ghost use Rattle.judge_entering.specs.inner.Times.{Enterable};
 ghost use Rattle.judge_one_move.specs.inner.Standing.{Standing};
 ghost use Rattle.judge_one_move.specs.inner.Running.{Joins, ZoneLeft, GoneIn, CanGoOn, GoneOn, CanGoOut};
@@ -91,21 +91,19 @@ pub fn may_move(
     p == k
 }
 
-// Cart c goes from its lane into the zone of its first step, no earlier than the cart in front; no zone is left.
+// Cart c goes from its lane into the zone of its first step, no earlier than the cart in front; no zone is left. `mates` are the carts on its lane.
 pub fn move_in(
     sheet: &Table,
-    lanes: &Lanes,
     ahead: &[u16; 128],
     mates: u16,
     leave: &[u32; 384],
     enter: &mut [u32; 128],
     c: usize,
 )
-    requires { ⌜ Enterable (now sheet) mates (now leave) (8 * c) c × (frontAt (now lanes) c ≤ 16) ⌝ }
-    ensures { λ r. ⌜ GoneIn (now (sheet .entry)) (now (lanes .entry)) (now (ahead .entry)) (now (leave .entry)) (now (enter .entry))
-        (now (enter .exit)) c ⌝ }
+    requires { ⌜ Enterable (now sheet) (now ahead) mates (now leave) (8 * c) c ⌝ }
+    ensures { λ r. ⌜ GoneIn (now (sheet .entry)) (now (ahead .entry)) mates (now (leave .entry)) (now (enter .entry)) (now (enter .exit)) c ⌝ }
 {
-    let line = front_enters(lanes, enter, c);
+    let line = front_enters(mates, enter, c);
     let ready = later(sheet_table::arrival(sheet, c), line);
     enter_zone(sheet, ahead, mates, leave, enter, 8 * c, c, ready);
 }
@@ -121,7 +119,7 @@ pub fn move_on(
     c: usize,
     x: usize,
 )
-    requires { ⌜ CanGoOn (now sheet) mates (now left) (now leave) (now enter) c x ⌝ }
+    requires { ⌜ CanGoOn (now sheet) (now ahead) mates (now left) (now leave) (now enter) c x ⌝ }
     ensures { λ r.
         ⌜ GoneOn (now (sheet .entry)) (now (ahead .entry)) (now (left .entry)) (now (leave .entry)) (now (enter .entry)) (now (left .exit))
         (now (leave .exit)) (now (enter .exit)) c x ⌝ }

@@ -1,6 +1,6 @@
--- The set of the carts that are not out: those that have steps at the start; a cart that comes out is taken from it; with none in it no move is left.
+-- The set of the carts that are not out: those that have steps at the start; a cart that comes out is taken from it.
 use Prim.Native.Nat.{ℕ, suc, _+_, _≤_, _<_}
-use mathlib.Core.Path.{_≡_, refl, sym, ap, _∙_}
+use mathlib.Core.Path.{_≡_, refl, sym, _∙_}
 use mathlib.Core.Logic.{_↔_}
 use mathlib.Core.Bool.{true, false≢true}
 use mathlib.Core.List.{List}
@@ -10,7 +10,7 @@ use lib.ListN.{getD, replicate}
 use borrow.Author.Tests.{ltb-true, lt-ltb, le-ltb}
 use Rattle.sets.specs.inner.Member.{has, With, Without}
 use Rattle.sets.specs.Counting.{setBelow}
-use Rattle.sets.proofs.Laws.{has-none, has-below, without-gone, without-other}
+use Rattle.sets.proofs.Laws.{has-below, without-gone, without-other}
 use Rattle.sets.proofs.Counting.{set-fits, has-set, set-with, set-as-before}
 use Rattle.moves.specs.System.{System, pos}
 use Rattle.moves.specs.Moves.{NotOut, Permitted}
@@ -21,7 +21,7 @@ use Rattle.routes.specs.inner.Orders.{OnlyVisitors}
 use Rattle.routes.proofs.Moves.{moves-within, out-are, out-steps, permitted-by-rule}
 use Rattle.crossing.specs.inner.Tables.{crossingBy}
 use Rattle.crossing.proofs.Tables.{steps-is, step-below}
-use Rattle.judge_running.specs.inner.Rounds.{presentSet, InsideSet, Going}
+use Rattle.judge_running.specs.inner.Rounds.{presentSet, InsideSet}
 
 -- ---- the carts that have steps
 
@@ -113,11 +113,3 @@ held-wants X at c only some within held = elim (decLt (pos at c) (steps X c)) [ 
           into = λ h. absurd (n h);
           line = λ first. absurd (omega (arith, first, some, n));
         })
-
--- ---- no cart is left inside
-
-pub inside-going : (X : Crossing) (at : List ℕ) (inside : ℕ) → InsideSet X at inside → Going X at inside
-inside-going X at inside is = record {
-  none-left = λ none d m. false≢true (sym (has-none d) ∙ ap (λ (set : ℕ). has set d) (sym none) ∙ is .not-out d .1 (m .not-out));
-  inside = λ _. is;
-}

@@ -1,14 +1,17 @@
--- Turns of the carts that are not out, until none moves: what they keep and come to.
+-- Turns of the carts that the lane does not hold, until none moves: what they keep and come to.
 use Prim.Native.Nat.{ℕ, _+_, _*_, _-_, _≤_, _<_, min}
 use mathlib.Core.Path.{_≡_, sym, ap, subst, _∙_}
-use mathlib.Core.Bool.{true, false≢true}
+use mathlib.Core.Logic.{_↔_, _⊎_, inl, inr, Iff·rfl}
+use mathlib.Core.Bool.{Bool, true, false, false≢true, not-eq-not}
 use mathlib.Core.List.{List}
 use native.Mathlib.Decide.{ℕ-discrete, decLt}
 use native.Mathlib.Nat.{le-refl}
 use native.Mathlib.Omega.{arith}
 use lib.ListN.{length, replicate, length-replicate}
-use Rattle.sets.specs.inner.Member.{has, Without, Within, Lowest, Rest}
-use Rattle.sets.proofs.Laws.{has-none, without-gone, without-other}
+use lib.Count.{trailingZeros}
+use Rattle.words.proofs.Tests.{or-says}
+use Rattle.sets.specs.inner.Member.{has, Without, Joined, Within, Lowest, Rest}
+use Rattle.sets.proofs.Laws.{has-none, without-gone, without-other, trailing-lowest, trailing-past}
 use Rattle.moves.specs.System.{System, carts, pos, start}
 use Rattle.moves.specs.Moves.{Permitted}
 use Rattle.moves.specs.inner.Runs.{Stuck}
@@ -17,13 +20,15 @@ use Rattle.moves.proofs.Positions.{zeros-pos, zeros-sum}
 use Rattle.moves.proofs.Runs.{start-in-range, reaches-here}
 use Rattle.moves.proofs.Ends.{end-unique}
 use Rattle.routes.specs.Crossing.{Crossing, steps}
+use Rattle.routes.specs.Lanes.{laneHolds}
 use Rattle.routes.specs.Moves.{system}
 use Rattle.times.specs.Times.{Given}
 use Rattle.crossing.specs.inner.Sound.{Sound}
 use Rattle.judge_one_move.specs.inner.Running.{Running}
-use Rattle.judge_running.specs.inner.Rounds.{InsideSet, Going, Underway, Advanced, Swept}
+use Rattle.judge_running.specs.inner.Rounds.{AskedSet, Going, Underway, Started, Advanced, Swept}
 use Rattle.judge_running.specs.inner.Settled.{SettlesAs}
-use Rattle.judge_running.proofs.Inside.{inside-kept, inside-out, held-wants, inside-going}
+use Rattle.judge_running.proofs.Inside.{held-wants}
+use Rattle.judge_running.proofs.Asked.{asked-kept, asked-out, asked-permitted, asked-going}
 use Rattle.judge_running.proofs.Rounds.{underway-few}
 
 module _ (X : Crossing) (G : Given) where
@@ -32,71 +37,126 @@ module _ (X : Crossing) (G : Given) where
 
   -- ---- a turn of the carts
 
-  -- the carts of `turn` are still to be asked, where `before` moves were made; now `made` are, and `inside` are the carts that are not out
-  pub record Sweeping (at left leave enter order : List ℕ) (before made turn inside : ℕ) : Type 0 where
+  -- the carts of `turn` are still to be asked, where `before` moves were made; now `made` are, and `asked` are all that the lane does not hold
+  pub record Sweeping (at left leave enter order : List ℕ) (before made turn asked : ℕ) : Type 0 where
     pub underway : Underway X G at left leave enter order made
     pub no-fewer : before ≤ made
-    pub inside-is : InsideSet X at inside
-    pub not-out : Within turn inside
+    pub asked-is : AskedSet X at asked
+    pub in-turn : Within turn asked
     pub none-yet : made ≡ before → (d : ℕ) → Permitted S at d → has turn d ≡ true
 
-  pub sweeping-start : (at left leave enter order : List ℕ) (made inside : ℕ) → Underway X G at left leave enter order made → InsideSet X at inside
-      → Sweeping at left leave enter order made made inside inside
-  sweeping-start at left leave enter order made inside on is = record {
+  pub sweeping-start : (at left leave enter order : List ℕ) (made asked : ℕ) → Underway X G at left leave enter order made → AskedSet X at asked
+      → Sweeping at left leave enter order made made asked asked
+  sweeping-start at left leave enter order made asked on is = record {
     underway = on;
     no-fewer = le-refl made;
-    inside-is = is;
-    not-out = λ _ e. e;
-    none-yet = λ _ d m. is .not-out d .1 (m .not-out);
+    asked-is = is;
+    in-turn = λ _ e. e;
+    none-yet = λ _. asked-permitted X at asked (on .running .sound .only) is;
   }
 
-  module _ (at left leave enter order : List ℕ) (before made turn inside : ℕ) (on : Sweeping at left leave enter order before made turn inside) where
-    -- the lowest cart of the turn wants a zone
-    pub sweeping-wants : (c k : ℕ) → steps X c ≡ k → Lowest turn c → pos at c < k
-    sweeping-wants c k counted low = omega (arith, counted, on .inside-is .wants c (on .not-out c (low .member)))
+  module _ (at left leave enter order : List ℕ) (before made turn asked : ℕ) (on : Sweeping at left leave enter order before made turn asked) where
+    -- the lowest cart of the turn wants a zone, and the lane does not hold it
+    module _ (c : ℕ) (low : Lowest turn c) where
+      member : has asked c ≡ true
+      member = on .in-turn c (low .member)
 
-    -- and moves on
-    module _ (c rest : ℕ) (low : Lowest turn c) (without : Rest turn rest) (next left′ leave′ enter′ order′ : List ℕ) (total : ℕ)
-        (has-advanced : Advanced X G at next left′ leave′ enter′ order′ c made total) where
-      remain : (d : ℕ) → ¬ (d ≡ c) → has rest d ≡ has turn d
-      remain = without-other turn c rest (without .others c low)
+      pub sweeping-wants : (k : ℕ) → steps X c ≡ k → pos at c < k
+      sweeping-wants k counted = omega (arith, counted, on .asked-is .wants c member)
 
-      member : has inside c ≡ true
-      member = on .not-out c (low .member)
+      pub sweeping-free : laneHolds X at c ≡ false
+      sweeping-free = on .asked-is .asks c .0 member .1
 
-      sweeping-turn : (still : ℕ) → InsideSet X next still → ((d : ℕ) → ¬ (d ≡ c) → has inside d ≡ true → has still d ≡ true)
-          → Sweeping next left′ leave′ enter′ order′ before total rest still
-      sweeping-turn still is stay = record {
-        underway = has-advanced .onward .underway;
-        no-fewer = omega (arith, has-advanced .onward .no-fewer, on .no-fewer);
-        inside-is = is;
-        not-out = λ d e.
-            let other : ¬ (d ≡ c) = λ q. false≢true (sym (without-gone turn c rest (without .others c low)) ∙ rw q at e) in
-            stay d other (on .not-out d (sym (remain d other) ∙ e));
-        none-yet = λ none d m.
-            let none-here : total ≡ made = omega (arith, none, has-advanced .onward .no-fewer, on .no-fewer) in
-            let asked : has turn d ≡ true = on .none-yet (omega (arith, none, has-advanced .onward .no-fewer, on .no-fewer)) d
-            (rw (has-advanced .onward .none-made none-here) at m) in
-            elim (ℕ-discrete d c) [ yes e ↦ absurd (has-advanced .held-or-out (rw e at m)) | no n ↦ remain d n ∙ asked ];
-      }
+      module _ (rest : ℕ) (without : Rest turn rest) where
+        remain : (d : ℕ) → ¬ (d ≡ c) → has rest d ≡ has turn d
+        remain = without-other turn c rest (without .others c low)
 
-      -- and comes out
-      pub sweeping-out : (k fewer : ℕ) → steps X c ≡ k → k < pos next c → Without inside c fewer
-          → Sweeping next left′ leave′ enter′ order′ before total rest fewer
-      sweeping-out k fewer counted past taken =
-          sweeping-turn fewer (inside-out X at next c inside (on .inside-is) member (has-advanced .onward .others) fewer (omega (arith, counted)) taken)
-          (λ d n e. without-other inside c fewer taken d n ∙ e)
+        rest-past : (d : ℕ) → has rest d ≡ true → c < d
+        rest-past d e = elim (ℕ-discrete d c) [
+          | yes q ↦ absurd (false≢true (sym (without-gone turn c rest (without .others c low)) ∙ rw q at e))
+          | no n ↦ elim (decLt d c) [ yes l ↦ absurd (false≢true (sym (low .least d l) ∙ sym (remain d n) ∙ e)) | no m ↦ omega (arith, n, m) ]
+        ]
 
-      -- or stays inside
-      pub sweeping-held : (k : ℕ) → steps X c ≡ k → pos next c ≤ k → Sweeping next left′ leave′ enter′ order′ before total rest inside
-      sweeping-held k counted within =
-          sweeping-turn inside (inside-kept X at next c inside (on .inside-is) member (has-advanced .onward .others) wants-more) (λ _ _ e. e)
-        where
-          -- out of its last zone it would have gone
-          wants-more : pos next c < steps X c
-          wants-more =
-              held-wants X next c (has-advanced .onward .underway .running .sound .only) (omega (arith, on .inside-is .wants c member)) (omega (arith, counted))
-              (has-advanced .held-or-out)
+        -- the next in turn is a higher cart
+        sweeping-less : (again : ℕ) → c < 16 → ((d : ℕ) → has again d ≡ true → c < d) → 16 - trailingZeros 16 again < 16 - trailingZeros 16 turn
+        sweeping-less again l past =
+            omega (
+              arith,
+              l,
+              trailing-lowest 16 turn c l low,
+              trailing-past 16 again c l (λ i m. not-eq-not {b = false} .0 (λ e. omega (arith, m, past i e))),
+            )
+
+        pub rest-less : c < 16 → 16 - trailingZeros 16 rest < 16 - trailingZeros 16 turn
+        rest-less l = sweeping-less rest l rest-past
+
+        -- it may not move
+        pub sweeping-held : ¬ (Permitted S at c) → Sweeping at left leave enter order before made rest asked
+        sweeping-held held = record {
+          underway = on .underway;
+          no-fewer = on .no-fewer;
+          asked-is = on .asked-is;
+          in-turn = λ d e. on .in-turn d (sym (remain d (λ q. omega (arith, q, rest-past d e))) ∙ e);
+          none-yet = λ none d m. remain d (λ q. held (rw q at m)) ∙ on .none-yet none d m;
+        }
+
+        -- it starts, and moves on
+        module _ (begun enter1 order1 : List ℕ) (made1 freed again more : ℕ) (off : Started X G at begun left leave enter1 order1 c made made1 freed)
+            (turn-is : Joined rest freed again) (more-are : Joined asked freed more)
+            (next left2 leave2 enter2 order2 : List ℕ) (total : ℕ) (out : Bool)
+            (on-from : Advanced X G begun next left2 leave2 enter2 order2 c made1 total out) where
+          again-says : (d : ℕ) → (has again d ≡ true) ↔ ((has rest d ≡ true) ⊎ (has freed d ≡ true))
+          again-says d = rw (turn-is d) (or-says (has rest d) (has freed d) Iff·rfl Iff·rfl)
+
+          more-says : (d : ℕ) → (has more d ≡ true) ↔ ((has asked d ≡ true) ⊎ (has freed d ≡ true))
+          more-says d = rw (more-are d) (or-says (has asked d) (has freed d) Iff·rfl Iff·rfl)
+
+          again-past : (d : ℕ) → has again d ≡ true → c < d
+          again-past d e = elim (again-says d .0 e) [ inl was ↦ rest-past d was | inr new ↦ off .behind d new ]
+
+          pub again-less : c < 16 → 16 - trailingZeros 16 again < 16 - trailingZeros 16 turn
+          again-less l = sweeping-less again l again-past
+
+          others : (d : ℕ) → ¬ (d ≡ c) → pos next d ≡ pos at d
+          others d n = on-from .onward .others d n ∙ off .onward .others d n
+
+          sweeping-turn : (still : ℕ) → AskedSet X next still → ((d : ℕ) → ¬ (d ≡ c) → has more d ≡ true → has still d ≡ true)
+              → Sweeping next left2 leave2 enter2 order2 before total again still
+          sweeping-turn still is stay = record {
+            underway = on-from .onward .underway;
+            no-fewer = omega (arith, on-from .onward .no-fewer, off .onward .no-fewer, on .no-fewer);
+            asked-is = is;
+            in-turn = λ d e.
+                let other : ¬ (d ≡ c) = λ q. omega (arith, q, again-past d e) in
+                stay d other (more-says d .1 (elim (again-says d .0 e) [
+                  | inl was ↦ inl (on .in-turn d (sym (remain d other) ∙ was))
+                  | inr new ↦ inr new
+                ]));
+            none-yet = λ none d m.
+                let none-after : total ≡ made1 = omega (arith, none, on-from .onward .no-fewer, off .onward .no-fewer, on .no-fewer) in
+                let none-here : made1 ≡ made = omega (arith, none, on-from .onward .no-fewer, off .onward .no-fewer, on .no-fewer) in
+                let same : next ≡ at = on-from .onward .none-made none-after ∙ off .onward .none-made none-here in
+                let in-old : has turn d ≡ true = on .none-yet (omega (arith, none, none-after, none-here)) d (rw same at m) in
+                again-says d .1 (inl (remain d (λ q. on-from .held-or-out (rw q at m)) ∙ in-old));
+          }
+
+          -- and comes out
+          pub sweeping-out : out ≡ true → (fewer : ℕ) → Without more c fewer → Sweeping next left2 leave2 enter2 order2 before total again fewer
+          sweeping-out is fewer taken =
+              sweeping-turn fewer
+              (asked-out X at next c asked freed more (on .underway .running .reached) (on .asked-is) member others (on-from .started) (off .frees) more-are
+              fewer
+              (on-from .is-out is) taken)
+              (λ d n e. without-other more c fewer taken d n ∙ e)
+
+          -- or stays inside: out of its last zone it would have gone
+          pub sweeping-on : out ≡ false → Sweeping next left2 leave2 enter2 order2 before total again more
+          sweeping-on is =
+              sweeping-turn more
+              (asked-kept X at next c asked freed more (on .underway .running .reached) (on .asked-is) member others (on-from .started) (off .frees) more-are
+              (held-wants X next c (on .underway .running .sound .only) (omega (arith, on .asked-is .wants c member)) (on-from .not-out is)
+              (on-from .held-or-out)))
+              (λ _ _ e. e)
 
     module _ (none : turn ≤ 0) where
       held : made ≡ before → Stuck S at
@@ -111,16 +171,16 @@ module _ (X : Crossing) (G : Given) where
         underway = on .underway;
         no-fewer = on .no-fewer;
         some-made = λ some. absurd (omega (arith, some));
-        going-is = record { none-left = λ _. held same; inside = λ some. absurd (omega (arith, some)) };
+        going-is = record { none-left = λ _. held same; asked = λ some. absurd (omega (arith, some)) };
       }
 
       -- some have
-      pub sweeping-some : ¬ (made ≡ before) → Swept X G at left leave enter order before made inside
+      pub sweeping-some : ¬ (made ≡ before) → Swept X G at left leave enter order before made asked
       sweeping-some other = record {
         underway = on .underway;
         no-fewer = on .no-fewer;
         some-made = λ _. omega (arith, on .no-fewer, other);
-        going-is = inside-going X at inside (on .inside-is);
+        going-is = asked-going X at asked (on .underway .running .sound .only) (on .asked-is);
       }
 
   -- ---- until nothing moves
@@ -150,10 +210,10 @@ module _ (X : Crossing) (G : Given) where
     pub underway : Underway X G at left leave enter order made
     pub going-is : Going X at going
 
-  pub settling-start : (lanes : ℕ) (left leave enter order : List ℕ) (inside : ℕ) → carts S ≡ lanes → length order ≡ 144
-      → Running X G (replicate lanes 0) left leave enter → InsideSet X (replicate lanes 0) inside
-      → Settling (replicate lanes 0) left leave enter order 0 inside
-  settling-start lanes left leave enter order inside all size run is = record {
+  pub settling-start : (lanes : ℕ) (left leave enter order : List ℕ) (asked : ℕ) → carts S ≡ lanes → length order ≡ 144
+      → Running X G (replicate lanes 0) left leave enter → AskedSet X (replicate lanes 0) asked
+      → Settling (replicate lanes 0) left leave enter order 0 asked
+  settling-start lanes left leave enter order asked all size run is = record {
     underway = record {
       running = run;
       counted = sym (zeros-sum lanes);
@@ -161,7 +221,7 @@ module _ (X : Crossing) (G : Given) where
       is-run = tt;
       run-ends = ap (λ (n : ℕ). replicate n 0) all;
     };
-    going-is = inside-going X (replicate lanes 0) inside is;
+    going-is = asked-going X (replicate lanes 0) asked (run .sound .only) is;
   }
 
   module _ (at left leave enter order : List ℕ) (made going : ℕ) (on : Settling at left leave enter order made going) where

@@ -1,31 +1,78 @@
 // Permitted moves made until none is left, with the entering times on the way: verdict and times, from one routine.
-use judge_entering::Lanes;
-use judge_entering::lanes;
-use judge_entering::mates;
+use judge_entering::foremost;
+use judge_entering::next_behind;
+use judge_entering::present_lanes;
 use judge_one_move::may_enter;
-use judge_one_move::may_go_in;
 use judge_one_move::move_in;
 use judge_one_move::move_on;
 use judge_one_move::move_out;
 use sets::carts;
 use sheet_table::Table;
 ghost use mathlib.Core.Path.{_≡_};
-ghost use Prim.Native.Nat.{_<_};
-ghost use lib.ListN.{length, replicate};
+ghost use mathlib.Core.List.{List};
+ghost use Prim.Native.Nat.{ℕ, _≤_, _<_};
+ghost use lib.ListN.{length, getD, replicate};
+ghost use Rattle.moves.specs.System.{pos};
 ghost use Rattle.moves.specs.Moves.{Permitted};
 ghost use Rattle.routes.specs.Moves.{system};
 ghost use Rattle.sheet_table.specs.inner.Parts.{steps};
 ghost use Rattle.crossing.specs.inner.Tables.{crossingOf, givenOf};
 ghost use Rattle.crossing.specs.inner.Sound.{Sound};
-ghost use Rattle.judge_entering.specs.inner.Lanes.{lanesOf};
-ghost use Rattle.judge_running.specs.inner.Rounds.{presentSet, InsideSet, Underway, Advanced, Swept};
+ghost use Rattle.judge_entering.specs.inner.Lanes.{presentLanes, presentMates};
+ghost use Rattle.judge_running.specs.inner.Rounds.{presentSet, AskedSet, Underway, Started, Advanced, Swept};
 ghost use Rattle.judge_running.specs.inner.Settled.{SettlesAs};
 
-// Cart c, which may move, moves on as far as it may, and is stored in the table for each of its moves; answers how many moves are made in all.
+// How many moves are made in all, and who is held no more by the lane.
+struct FirstMove {
+    made: usize,
+    freed: u16,
+}
+
+// Cart c, which may move, makes its first move if it stands in its lane, and frees who is next behind it. `mates` are the carts on its lane.
+fn start(
+    sheet: &Table,
+    ahead: &[u16; 128],
+    mates: u16,
+    at: &mut [u8; 16],
+    leave: &[u32; 384],
+    enter: &mut [u32; 128],
+    order: &mut [u8; 144],
+    c: usize,
+    made: usize,
+) -> FirstMove
+    requires { ⌜ (c < 16) × Permitted (system (crossingOf (now sheet) (now ahead))) (now at) c × (mates ≡ presentMates (now sheet) c)
+        × ((left : List ℕ)
+        × Underway (crossingOf (now sheet) (now ahead)) (givenOf (now sheet)) (now at) left (now leave) (now enter) (now order) made) ⌝ }
+    ensures { λ r.
+        ⌜ ((left : List ℕ)
+        → Underway (crossingOf (now (sheet .entry)) (now (ahead .entry))) (givenOf (now (sheet .entry))) (now (at .entry)) left
+        (now (leave .entry)) (now (enter .entry)) (now (order .entry)) made
+        → Started (crossingOf (now (sheet .entry)) (now (ahead .entry))) (givenOf (now (sheet .entry))) (now (at .entry)) (now (at .exit)) left
+        (now (leave .entry)) (now (enter .exit)) (now (order .exit)) c made (r .made) (r .freed)) ⌝ }
+{
+    if 0 < at[c] {
+        return FirstMove { made, freed: 0 };
+    }
+    order[made] = c as u8;
+    move_in(sheet, ahead, mates, leave, enter, c);
+    at[c] = 1;
+    FirstMove {
+        made: made + 1,
+        freed: next_behind(mates, c),
+    }
+}
+
+// How many moves are made in all, and whether the cart is out.
+struct Gone {
+    made: usize,
+    out: bool,
+}
+
+// Cart c, which has started, moves on as far as it may, and is stored in the table for each of its moves. `mates` are the carts on its lane.
 fn advance(
     sheet: &Table,
-    lanes: &Lanes,
     ahead: &[u16; 128],
+    mates: u16,
     at: &mut [u8; 16],
     left: &mut [u16; 24],
     leave: &mut [u32; 384],
@@ -33,38 +80,34 @@ fn advance(
     order: &mut [u8; 144],
     c: usize,
     before: usize,
-) -> usize
+) -> Gone
     requires { ⌜ Underway (crossingOf (now sheet) (now ahead)) (givenOf (now sheet)) (now at) (now left) (now leave) (now enter) (now order)
-        before × (c < 16) × Permitted (system (crossingOf (now sheet) (now ahead))) (now at) c × (now lanes ≡ lanesOf (now sheet)) ⌝ }
+        before × (c < 16) × (0 < pos (now at) c) × (pos (now at) c ≤ getD (steps (now sheet)) c 0) × (mates ≡ presentMates (now sheet) c) ⌝ }
     ensures { λ r.
         ⌜ Advanced (crossingOf (now (sheet .entry)) (now (ahead .entry))) (givenOf (now (sheet .entry))) (now (at .entry)) (now (at .exit))
-        (now (left .exit)) (now (leave .exit)) (now (enter .exit)) (now (order .exit)) c before r ⌝ }
+        (now (left .exit)) (now (leave .exit)) (now (enter .exit)) (now (order .exit)) c before (r .made) (r .out) ⌝ }
 {
     let k = sheet_table::steps(sheet, c);
-    let same = mates(sheet, lanes, c);
-    let mut p = at[c] as usize;
+    let end = 8 * c + k;
+    let mut x = 8 * c + at[c] as usize;
     let mut made = before;
-    if p == 0 {
-        order[made] = c as u8;
-        made += 1;
-        move_in(sheet, lanes, ahead, same, leave, enter, c);
-        p = 1;
-    }
-    while p < k {
-        let x = 8 * c + p;
+    while x < end {
         if !may_enter(sheet, ahead, left, x) {
-            at[c] = p as u8;
-            return made;
+            at[c] = (x - 8 * c) as u8;
+            return Gone { made, out: false };
         }
         order[made] = c as u8;
         made += 1;
-        move_on(sheet, ahead, same, left, leave, enter, c, x);
-        p += 1;
+        move_on(sheet, ahead, mates, left, leave, enter, c, x);
+        x += 1;
     }
     order[made] = c as u8;
-    move_out(sheet, left, leave, enter, c, 8 * c + k - 1);
+    move_out(sheet, left, leave, enter, c, end - 1);
     at[c] = (k + 1) as u8;
-    made + 1
+    Gone {
+        made: made + 1,
+        out: true,
+    }
 }
 
 // The set of the carts that have steps.
@@ -88,35 +131,51 @@ struct Turn {
     going: u16,
 }
 
-// Every cart that is not out moves on in turn as far as it may.
+// Every cart that is not out and that the lane does not hold moves on in turn as far as it may. `on` has for each lane the carts on it.
 fn sweep(
     sheet: &Table,
-    lanes: &Lanes,
+    on: &[u16; 16],
     ahead: &[u16; 128],
     at: &mut [u8; 16],
     left: &mut [u16; 24],
     leave: &mut [u32; 384],
     enter: &mut [u32; 128],
     order: &mut [u8; 144],
-    inside: u16,
+    asked: u16,
     before: usize,
 ) -> Turn
     requires { ⌜ Underway (crossingOf (now sheet) (now ahead)) (givenOf (now sheet)) (now at) (now left) (now leave) (now enter) (now order)
-        before × InsideSet (crossingOf (now sheet) (now ahead)) (now at) inside × (now lanes ≡ lanesOf (now sheet)) ⌝ }
+        before × AskedSet (crossingOf (now sheet) (now ahead)) (now at) asked × (now on ≡ presentLanes (now sheet)) ⌝ }
     ensures { λ r.
         ⌜ Swept (crossingOf (now (sheet .entry)) (now (ahead .entry))) (givenOf (now (sheet .entry))) (now (at .exit)) (now (left .exit))
         (now (leave .exit)) (now (enter .exit)) (now (order .exit)) before (r .made) (r .going) ⌝ }
 {
     let mut made = before;
-    let mut turn = inside;
-    let mut still = inside;
+    let mut turn = asked;
+    let mut still = asked;
     while 0 < turn {
         let c = carts::lowest(turn);
         turn = carts::rest(turn);
-        // A cart that is not out wants a zone: out of its last one it has gone at once.
-        if may_go_in(sheet, lanes, ahead, at, left, c) {
-            made = advance(sheet, lanes, ahead, at, left, leave, enter, order, c, made);
-            if sheet_table::steps(sheet, c) < at[c] as usize {
+        // A cart that is asked wants a zone: out of its last one it has gone at once.
+        if may_enter(sheet, ahead, left, 8 * c + at[c] as usize) {
+            let mates = on[sheet_table::lane(sheet, c)];
+            let started = start(sheet, ahead, mates, at, leave, enter, order, c, made);
+            turn = carts::joined(turn, started.freed);
+            still = carts::joined(still, started.freed);
+            let gone = advance(
+                sheet,
+                ahead,
+                mates,
+                at,
+                left,
+                leave,
+                enter,
+                order,
+                c,
+                started.made,
+            );
+            made = gone.made;
+            if gone.out {
                 still = carts::without(still, c);
             }
         }
@@ -146,16 +205,16 @@ pub fn settle(
         ⌜ SettlesAs (crossingOf (now (sheet .entry)) (now (ahead .entry))) (givenOf (now (sheet .entry))) (r .at) (r .left)
         (now (enter .exit)) (now (order .exit)) (r .made) ⌝ }
 {
-    let lanes = lanes(sheet);
+    let on = present_lanes(sheet);
     let mut at = [0u8; 16];
     let mut left = [0u16; 24];
     let mut leave = [0u32; 384];
     let mut made = 0;
-    let mut going = present(sheet);
+    let mut going = foremost(&on);
     while 0 < going {
         let turn = sweep(
             sheet,
-            &lanes,
+            &on,
             ahead,
             &mut at,
             &mut left,

@@ -57,7 +57,7 @@ element-write-enter c = search needs
 
 returns : tie.Need-returns
 returns c = (
-  latest-parts _ _ _ _ _ (c .before .before .before .before .before .before .before .before .before .pre) _ _ _ _ _ _ _ _ _
+  latest-parts _ _ _ _ _ _ (c .before .before .before .before .before .before .before .before .before .pre) _ _ _ _ _ _ _ _
       (c .before .before .before .before .before .before .before .before .zone .ensures) (c .before .before .before .before .before .follow .ensures)
       (c .before .cross .ensures) (c .before .before .before .before .before .before .less .ensures) (c .before .before .before .less2 .ensures)
       (c .before .before .latest-clear .ensures) (c .latest-clear2 .ensures),

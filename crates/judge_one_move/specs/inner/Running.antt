@@ -17,7 +17,7 @@ use Rattle.times.specs.inner.Times.{EnteredTimes}
 use Rattle.sheet_table.specs.inner.Parts.{arrival, zone, passing, travel}
 use Rattle.crossing.specs.inner.Tables.{LeftSet}
 use Rattle.crossing.specs.inner.Sound.{Sound}
-use Rattle.judge_entering.specs.inner.Lanes.{frontAt, frontTime}
+use Rattle.judge_entering.specs.inner.Lanes.{memberBefore, frontTime}
 use Rattle.judge_entering.specs.Times.{timesOf}
 use Rattle.judge_entering.specs.inner.Times.{clearOf, latest, AtMost, Enterable}
 
@@ -32,16 +32,16 @@ pub record ZoneLeft (left leave more after : List ℕ) (z c time : ℕ) : Type 0
   pub stored : after ≡ set leave (16 * z + c) time
 
 -- cart c has gone from its lane into the zone of its first step: as soon as it has arrived, the cart in front has entered, and it is clear
-pub record GoneIn (sheet lanes ahead leave enter entered : List ℕ) (c : ℕ) : Type 0 where
+pub record GoneIn (sheet ahead : List ℕ) (mates : ℕ) (leave enter entered : List ℕ) (c : ℕ) : Type 0 where
   pub time : ℕ
   pub time-is : time
       ≡ latest (clearOf sheet leave (getD (zone sheet) (8 * c) 0) c) (getD ahead (8 * c) 0)
-      (max (getD (arrival sheet) c 0) (frontTime (frontAt lanes c) enter))
+      (max (getD (arrival sheet) c 0) (frontTime (memberBefore mates c) enter))
   pub entered-is : entered ≡ set enter (8 * c) time
 
 -- what going on from the zone of its step at x - 1 into that of its step at x asks of the tables, for cart c
-pub record CanGoOn (sheet : List ℕ) (mates : ℕ) (left leave enter : List ℕ) (c x : ℕ) : Type 0 where
-  pub enterable : Enterable sheet mates leave x c
+pub record CanGoOn (sheet ahead : List ℕ) (mates : ℕ) (left leave enter : List ℕ) (c x : ℕ) : Type 0 where
+  pub enterable : Enterable sheet ahead mates leave x c
   pub not-first : 0 < x
   pub zone-24 : getD (zone sheet) (x - 1) 0 < 24
   pub left-24 : length left ≡ 24

@@ -1,8 +1,8 @@
--- Rounds of moves: one cart's, as far as it may go, and a turn of the carts that are not out.
+-- Rounds of moves: one cart's, as far as it may go, and a turn of the carts that are not out and that the lane does not hold.
 use Prim.Native.Nat.{ℕ, _≤_, _<_}
 use mathlib.Core.Path.{_≡_}
 use mathlib.Core.Logic.{_↔_}
-use mathlib.Core.Bool.{true}
+use mathlib.Core.Bool.{Bool, true, false}
 use mathlib.Core.List.{List}
 use lib.ListN.{length, getD, take}
 use lib.Dec.{ltb}
@@ -13,6 +13,7 @@ use Rattle.moves.specs.Moves.{NotOut, Permitted}
 use Rattle.moves.specs.Runs.{after, Run}
 use Rattle.moves.specs.inner.Runs.{Stuck}
 use Rattle.routes.specs.Crossing.{Crossing, steps}
+use Rattle.routes.specs.Lanes.{isFront, laneHolds}
 use Rattle.routes.specs.Moves.{system}
 use Rattle.times.specs.Times.{Given}
 use Rattle.judge_one_move.specs.inner.Running.{Running}
@@ -27,10 +28,19 @@ module _ (X : Crossing) where
     pub not-out : (c : ℕ) → (has inside c ≡ true) ↔ NotOut (system X) at c
     pub wants : (c : ℕ) → has inside c ≡ true → pos at c < steps X c
 
-  -- `going` are the carts that are asked in the next turn: none where no move is left, else those that are not out
+  -- `asked` is the set of the carts that are not out and that the lane does not hold; each of them wants a zone
+  pub record AskedSet (at : List ℕ) (asked : ℕ) : Type 0 where
+    pub asks : (c : ℕ) → (has asked c ≡ true) ↔ (NotOut (system X) at c × (laneHolds X at c ≡ false))
+    pub wants : (c : ℕ) → has asked c ≡ true → pos at c < steps X c
+
+  -- `going` are the carts that are asked in the next turn: none where no move is left, else all that the lane does not hold
   pub record Going (at : List ℕ) (going : ℕ) : Type 0 where
     pub none-left : going ≡ 0 → Stuck (system X) at
-    pub inside : 0 < going → InsideSet at going
+    pub asked : 0 < going → AskedSet at going
+
+  -- `freed` is the cart that the lane holds no more once cart c has started, if c had not
+  abbrev pub Frees : List ℕ → ℕ → ℕ → Type 0
+  Frees old c freed = (d : ℕ) → (has freed d ≡ true) ↔ ((pos old c ≡ 0) × (isFront X c d ≡ true))
 
 module _ (X : Crossing) (G : Given) where
   -- the carts are under way after `made` moves, and the first `made` entries of `order` are the carts that made them, first to last
@@ -48,12 +58,23 @@ module _ (X : Crossing) (G : Given) where
     pub none-made : made ≡ before → at ≡ old
     pub others : (d : ℕ) → ¬ (d ≡ c) → pos at d ≡ pos old d
 
-  -- cart c has moved on as far as it may go
-  pub record Advanced (old at left leave enter order : List ℕ) (c before made : ℕ) : Type 0 where
+  -- cart c has started, by its first move if it stood in its lane; `freed` is who was held behind it
+  pub record Started (old at left leave enter order : List ℕ) (c before made freed : ℕ) : Type 0 where
     pub onward : Onward old at left leave enter order c before made
-    pub held-or-out : ¬ (Permitted (system X) at c)
+    pub started : 0 < pos at c
+    pub within : pos at c ≤ steps X c
+    pub frees : Frees X old c freed
+    pub behind : (d : ℕ) → has freed d ≡ true → c < d
 
-  -- every cart that was not out has moved on in turn, where `before` moves were made; now `made` are
+  -- cart c, which has started, has moved on as far as it may go, and out or not
+  pub record Advanced (old at left leave enter order : List ℕ) (c before made : ℕ) (out : Bool) : Type 0 where
+    pub onward : Onward old at left leave enter order c before made
+    pub started : 0 < pos at c
+    pub held-or-out : ¬ (Permitted (system X) at c)
+    pub is-out : out ≡ true → steps X c < pos at c
+    pub not-out : out ≡ false → pos at c ≤ steps X c
+
+  -- every cart that was asked has moved on in turn, where `before` moves were made; now `made` are
   pub record Swept (at left leave enter order : List ℕ) (before made going : ℕ) : Type 0 where
     pub underway : Underway at left leave enter order made
     pub no-fewer : before ≤ made

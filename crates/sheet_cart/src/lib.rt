@@ -4,16 +4,16 @@ use fields::Field;
 use fields::four_bytes;
 use fields::one_byte;
 use fields::two_bytes;
-use sheet_table::Table;
+use sets::zones;
 use words::LATEST_ARRIVAL;
 use words::MOST_TIME;
 use words::Outcome;
 use words::refused;
 ghost use mathlib.Core.Path.{_≡_};
-ghost use Prim.Native.Nat.{_+_, _≤_, _<_};
+ghost use Prim.Native.Nat.{_≤_, _<_};
+ghost use Rattle.sets.specs.inner.Member.{has};
 ghost use Rattle.sheet.specs.Checks.{mostTravel};
-ghost use Rattle.sheet_table.specs.inner.Parts.{zone};
-ghost use Rattle.sheet_cart.specs.inner.Parts.{headAt, inRoute, stepAt};
+ghost use Rattle.sheet_cart.specs.inner.Parts.{headAt, stepAt};
 
 // What a cart has before its steps, with the place of its arrival.
 pub struct CartHead {
@@ -68,21 +68,6 @@ pub fn read_head(s: &[u8], c: Cursor) -> Head
     Head::Got(head, c4)
 }
 
-// Whether z is among the j zones from base on: the walk back over the route's earlier steps.
-fn in_route(sheet: &Table, base: usize, j: usize, z: usize) -> bool
-    requires { ⌜ base + j ≤ 128 ⌝ }
-    ensures { λ r. ⌜ r ≡ inRoute (zone (now (sheet .entry))) base j z ⌝ }
-{
-    let mut k = 0;
-    while k < j {
-        if sheet_table::zone(sheet, base + k) == z {
-            return true;
-        }
-        k += 1;
-    }
-    false
-}
-
 // The largest travel time of step j of k.
 fn most_travel(j: usize, k: usize) -> u32
     requires { ⌜ j < k ⌝ }
@@ -91,18 +76,10 @@ fn most_travel(j: usize, k: usize) -> u32
     if j + 1 == k { 0 } else { MOST_TIME }
 }
 
-// Step j of k at c, of a route whose zones so far stand from base on; n zones.
-pub fn read_step(
-    s: &[u8],
-    c: Cursor,
-    n: usize,
-    sheet: &Table,
-    base: usize,
-    j: usize,
-    k: usize,
-) -> Step
-    requires { ⌜ (j < k) × (base + j < 128) × (n ≤ 24) ⌝ }
-    ensures { λ r. ⌜ r ≡ stepAt (now (s .entry)) n (zone (now (sheet .entry))) base j k c ⌝ }
+// Step j of k at c, of a route whose earlier steps name the zones seen; n zones.
+pub fn read_step(s: &[u8], c: Cursor, n: usize, seen: u32, j: usize, k: usize) -> Step
+    requires { ⌜ (j < k) × (n ≤ 24) ⌝ }
+    ensures { λ r. ⌜ r ≡ stepAt (now (s .entry)) n (has seen) j k c ⌝ }
 {
     let Field::Value(z, c2) = one_byte(s, c) else {
         return Step::Refused(refused(1, c.at));
@@ -110,7 +87,7 @@ pub fn read_step(
     if n <= z as usize {
         return Step::Refused(refused(10, c.at));
     }
-    if in_route(sheet, base, j, z as usize) {
+    if zones::has(seen, z as usize) {
         return Step::Refused(refused(11, c.at));
     }
     let Field::Value(p, c3) = two_bytes(s, c2) else {

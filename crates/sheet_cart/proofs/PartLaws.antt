@@ -3,8 +3,9 @@ use Prim.Native.Nat.{ℕ, _+_, _≤_, _<_}
 use mathlib.Core.Path.{_≡_, subst}
 use mathlib.Core.Bool.{Bool, true, false}
 use mathlib.Core.List.{List}
+use native.Mathlib.Omega.{arith}
 use lib.Dec.{leb, ltb, eqb, lit<, lit≤}
-use borrow.Author.Tests.{ltb-true}
+use borrow.Author.Tests.{ltb-true, leb-true}
 use Rattle.words.specs.Lists.{pick}
 use Rattle.words.specs.declared.Outcome.{Outcome}
 use Rattle.words.specs.Limits.{mostTime}
@@ -25,6 +26,9 @@ travel-most j k = go (eqb (j + 1) k)
     go : (last : Bool) → pick last 0 mostTime ≤ mostTime
     go true = lit≤ tt
     go false = lit≤ tt
+
+pub travel-fits : (t j k : ℕ) → leb t (mostTravel j k) ≡ true → t ≤ mostTime
+travel-fits t j k e = omega (arith, leb-true t (mostTravel j k) e, travel-most j k)
 
 data HeadFine : Head → Type 0 where
   few-steps : {h : CartHead} {next : Cursor} → h .steps ≤ 8 → HeadFine (GotHead h next)

@@ -11,6 +11,7 @@ use words::Outcome;
 use words::refused;
 ghost use mathlib.Core.Path.{_≡_};
 ghost use Prim.Native.Nat.{_≤_, _<_};
+ghost use lib.Dec.{leb};
 ghost use Rattle.sets.specs.inner.Member.{has};
 ghost use Rattle.sheet.specs.Checks.{mostTravel};
 ghost use Rattle.sheet_cart.specs.inner.Parts.{headAt, stepAt};
@@ -68,12 +69,15 @@ pub fn read_head(s: &[u8], c: Cursor) -> Head
     Head::Got(head, c4)
 }
 
-// The largest travel time of step j of k.
-fn most_travel(j: usize, k: usize) -> u32
+// Whether t may be the travel time of step j of k.
+fn is_travel(t: u32, j: usize, k: usize) -> bool
     requires { ⌜ j < k ⌝ }
-    ensures { λ r. ⌜ r ≡ mostTravel j k ⌝ }
+    ensures { λ r. ⌜ r ≡ leb t (mostTravel j k) ⌝ }
 {
-    if j + 1 == k { 0 } else { MOST_TIME }
+    if MOST_TIME < t {
+        return false;
+    }
+    if j + 1 == k { t == 0 } else { true }
 }
 
 // Step j of k at c, of a route whose earlier steps name the zones seen; n zones.
@@ -99,7 +103,7 @@ pub fn read_step(s: &[u8], c: Cursor, n: usize, seen: u32, j: usize, k: usize) -
     let Field::Value(t, c4) = two_bytes(s, c3) else {
         return Step::Refused(refused(1, c3.at));
     };
-    if most_travel(j, k) < t {
+    if !is_travel(t, j, k) {
         return Step::Refused(refused(12, c3.at));
     }
     Step::Got(z as u8, p as u16, t as u16, c4)

@@ -31,7 +31,10 @@ module _ (s : List ℕ) (m i : ℕ) (sh : Sheet) (spot : List ℕ) (c : Cursor) 
   unfolding cartsFrom
   carts-refused h outcome e = rw (left-suc m i h, e)
 
-  pub carts-head : i < m → (h : CartHead) (next : Cursor) → headAt s c ≡ GotHead h next → (named : ℕ → Bool) → named ≡ (λ z. false) → (put : Sheet) → put ≡ putCart sh i h → cartsFrom s (m - i) i sh spot c ≡ stepsFrom s i (h .steps) (h .steps) 0 named put next (λ sh′ c′. cartsFrom s (m - (i + 1)) (i + 1) sh′ (set spot i (h .place)) c′)
+  pub carts-head : i < m → (h : CartHead) (next : Cursor) → headAt s c ≡ GotHead h next
+      → (named : ℕ → Bool) → named ≡ (λ z. false) → (put : Sheet) → put ≡ putCart sh i h
+      → cartsFrom s (m - i) i sh spot c ≡ stepsFrom s i (h .steps) (h .steps) 0 named put next
+      (λ sh′ c′. cartsFrom s (m - (i + 1)) (i + 1) sh′ (set spot i (h .place)) c′)
   unfolding cartsFrom
   carts-head l h next e named none put q = rw (left-suc m i l, e, none, q)
 
@@ -40,11 +43,14 @@ module _ (s : List ℕ) (i k j : ℕ) (named : ℕ → Bool) (sh : Sheet) (c : C
   unfolding stepsFrom
   steps-end h = rw (left-zero k j h)
 
-  pub steps-refused : j < k → (outcome : Outcome) → stepAt s (sh .zones) named j k c ≡ NoStep outcome → stepsFrom s i k (k - j) j named sh c go ≡ sheetRefused outcome
+  pub steps-refused : j < k → (outcome : Outcome) → stepAt s (sh .zones) named j k c ≡ NoStep outcome
+      → stepsFrom s i k (k - j) j named sh c go ≡ sheetRefused outcome
   unfolding stepsFrom
   steps-refused h outcome e = rw (left-suc k j h, e)
 
-  pub steps-next : j < k → (zone passing travel : ℕ) (next : Cursor) → stepAt s (sh .zones) named j k c ≡ GotStep zone passing travel next → (more : ℕ → Bool) → more ≡ (λ z. named z || eqb z zone) → (put : Sheet) → put ≡ withStep sh (8 * i + j) zone passing travel → stepsFrom s i k (k - j) j named sh c go ≡ stepsFrom s i k (k - (j + 1)) (j + 1) more put next go
+  pub steps-next : j < k → (zone passing travel : ℕ) (next : Cursor) → stepAt s (sh .zones) named j k c ≡ GotStep zone passing travel next
+      → (more : ℕ → Bool) → more ≡ (λ z. named z || eqb z zone) → (put : Sheet) → put ≡ withStep sh (8 * i + j) zone passing travel
+      → stepsFrom s i k (k - j) j named sh c go ≡ stepsFrom s i k (k - (j + 1)) (j + 1) more put next go
   unfolding stepsFrom
   steps-next h zone passing travel next e more with put q = rw (left-suc k j h, e, with, q)
 
@@ -71,5 +77,6 @@ module _ (sh : Sheet) (spot : List ℕ) (m i : ℕ) where
   lanes-end h = rw (left-zero m i h)
 
 -- where nothing is left to do, the outcome and the sheet are the answer
-pub left-answers : {whole : SheetRead} {sheet : Sheet} {outcome : Outcome} → Left sheetRefused whole (sheetDone sheet) outcome → outcome .number ≡ 0 → record { outcome = outcome; sheet = sheet } ≡ whole
+pub left-answers : {whole : SheetRead} {sheet : Sheet} {outcome : Outcome} → Left sheetRefused whole (sheetDone sheet) outcome → outcome .number ≡ 0
+    → record { outcome = outcome; sheet = sheet } ≡ whole
 left-answers left e = rw (left-done sheetRefused left e .0, left-done sheetRefused left e .1)

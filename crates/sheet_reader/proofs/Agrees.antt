@@ -15,7 +15,8 @@ use Rattle.words.proofs.Filling.{table-none, table-next, table-used}
 use Rattle.words.proofs.Tests.{leb-says, and-says, among-more}
 use Rattle.fields.specs.declared.Cursor.{Cursor}
 use Rattle.fields.proofs.TakingLaws.{taking-checks, pick-checks, unless-checks}
-use Rattle.sheet.specs.Layout.{zoneCount, followAt, followOf, crossAt, crossOf, cartCountAt, cartCount, cartAt, laneAt, laneOf, arrivalAt, arrivalOf, stepCountAt, stepCount, zoneAt, zoneOf, passingAt, passingOf, travelAt, travelOf, endAt}
+use Rattle.sheet.specs.Layout.{zoneCount, followAt, followOf, crossAt, crossOf, cartCountAt, cartCount, cartAt, laneAt, laneOf, arrivalAt, arrivalOf}
+use Rattle.sheet.specs.Layout.{stepCountAt, stepCount, zoneAt, zoneOf, passingAt, passingOf, travelAt, travelOf, endAt}
 use Rattle.sheet.specs.Checks.{field, isCartCount, isNamedBefore, arrivesEarly, zoneChecks, stepChecks, cartChecks, laneChecks, sheetChecks}
 use Rattle.sheet.specs.Reading.{blank, sheetRefused, sheetDone, sheetOf, readSheet}
 use Rattle.sheet.specs.declared.Sheet.{Sheet}
@@ -50,7 +51,17 @@ module _ (s : List ℕ) where
 
   nothing-yet : soFar 0 0 0 0 0 ≡ withZones blank (zoneCount s)
   nothing-yet =
-      rw (← table-none 24 (followOf s), ← table-none 24 (crossOf s), ← table-none 16 (laneOf s), ← table-none 16 (arrivalOf s), ← table-none 16 (stepCount s), ← passed-none s (zoneOf s), ← passed-none s (passingOf s), ← passed-none s (travelOf s))
+      rw (
+        ← table-none 24 (followOf s),
+        ← table-none 24 (crossOf s),
+        ← table-none 16 (laneOf s),
+        ← table-none 16 (arrivalOf s),
+        ← table-none 16
+            (stepCount s),
+        ← passed-none s (zoneOf s),
+        ← passed-none s (passingOf s),
+        ← passed-none s (travelOf s),
+      )
 
   cart-next : (i : ℕ) → cartAt s (i + 1) ≡ zoneAt s i (stepCount s i)
   unfolding cartAt
@@ -63,7 +74,13 @@ module _ (s : List ℕ) where
   early-same : (n i : ℕ) → n ≤ 16 → i < n → early (table 16 n (laneOf s)) (table 16 n (arrivalOf s)) i ≡ arrivesEarly s i
   early-same n i l h =
       any-same _ _ i λ e q.
-      rw (table-used 16 n (laneOf s) l e (omega arith), table-used 16 n (laneOf s) l i h, table-used 16 n (arrivalOf s) l e (omega arith), table-used 16 n (arrivalOf s) l i h)
+      rw (
+        table-used 16 n (laneOf s) l e (omega arith),
+        table-used 16 n (laneOf s) l i h,
+        table-used 16 n (arrivalOf s) l e (omega arith),
+        table-used
+            16 n (arrivalOf s) l i h,
+      )
 
   module _ (few : cartCount s ≤ 16) where
     -- the sheet when all is read
@@ -82,14 +99,16 @@ module _ (s : List ℕ) where
     lanes-agree zero i e = ap sheetDone whole-is
     lanes-agree (suc n) i e =
         rw (early-same (cartCount s) i few (omega arith), table-used 16 (cartCount s) (arrivalAt s) few i (omega arith))
-        (unless-checks (λ r. r) sheetRefused (sheetDone (sheetOf s)) 14 (arrivalAt s i) (arrivesEarly s i) _ (each n (i + 1) (laneChecks s)) (lanes-agree n (i + 1) (omega arith)))
+        (unless-checks (λ r. r) sheetRefused (sheetDone (sheetOf s)) 14 (arrivalAt s i) (arrivesEarly s i) _ (each n (i + 1) (laneChecks s))
+        (lanes-agree n (i + 1) (omega arith)))
 
     abbrev last : List Check
     last = check 13 (endAt s) (eqb (endAt s) (length s)) ∷ each (cartCount s) 0 (laneChecks s)
 
     finish-agrees : finish s whole (spots (cartCount s)) (record { at = endAt s }) ≡ first last
     unfolding finish
-    finish-agrees = pick-checks (λ r. r) sheetRefused (sheetDone (sheetOf s)) 13 (endAt s) (eqb (endAt s) (length s)) _ _ (lanes-agree (cartCount s) 0 (omega arith))
+    finish-agrees = pick-checks (λ r. r) sheetRefused (sheetDone (sheetOf s)) 13 (endAt s) (eqb (endAt s) (length s)) _ _
+        (lanes-agree (cartCount s) 0 (omega arith))
 
     -- the sheet when step j of cart i is next
     abbrev atStep : ℕ → ℕ → Sheet
@@ -99,7 +118,10 @@ module _ (s : List ℕ) where
     abbrev namedBefore : ℕ → ℕ → ℕ → Bool
     namedBefore i j z = anyBelow (λ e. eqb (zoneOf s i e) z) j
 
-    steps-agree : (i n j : ℕ) → i < 16 → stepCount s i ≤ 8 → j + n ≡ stepCount s i → (named : ℕ → Bool) → ((z : ℕ) → named z ≡ namedBefore i j z) → (go : Sheet → Cursor → SheetRead) (later : List Check) → go (atStep i (stepCount s i)) (record { at = zoneAt s i (stepCount s i) }) ≡ first later → stepsFrom s i (stepCount s i) n j named (atStep i j) (record { at = zoneAt s i j }) go ≡ first (each n j (stepChecks s i) ++ later)
+    steps-agree : (i n j : ℕ) → i < 16 → stepCount s i ≤ 8 → j + n ≡ stepCount s i
+        → (named : ℕ → Bool) → ((z : ℕ) → named z ≡ namedBefore i j z) → (go : Sheet → Cursor → SheetRead) (later : List Check)
+        → go (atStep i (stepCount s i)) (record { at = zoneAt s i (stepCount s i) }) ≡ first later
+        → stepsFrom s i (stepCount s i) n j named (atStep i j) (record { at = zoneAt s i j }) go ≡ first (each n j (stepChecks s i) ++ later)
     unfolding stepsFrom stepAt each stepChecks
     steps-agree i zero j hi hk e named same go later h = let q : j ≡ stepCount s i = omega arith in rw q h
     steps-agree i (suc n) j hi hk e named same go later h =
@@ -112,14 +134,23 @@ module _ (s : List ℕ) where
         (taking-checks then NoStep done 1 s 2 (passingAt s i j) 12 _ _ _ λ _ _.
         rw third
         (taking-checks then NoStep done 1 s 2 (travelAt s i j) 12 _ _ _ λ _ _.
-        rw (fourth, passed-put s (zoneOf s) i j hi (omega arith), passed-put s (passingOf s) i j hi (omega arith), passed-put s (travelOf s) i j hi (omega arith))
-        (steps-agree i n (j + 1) hi hk (omega arith) _ (λ z. ap (λ (b : Bool). b || eqb z (zoneOf s i j)) (same z) ∙ sym (among-more (zoneOf s i) j z)) go later h)))))
+        rw (
+          fourth,
+          passed-put s (zoneOf s) i j hi (omega arith),
+          passed-put s (passingOf s) i j hi (omega arith),
+          passed-put s (travelOf s) i j hi
+              (omega arith),
+        )
+        (steps-agree i n (j + 1) hi hk (omega arith) _
+        (λ z. ap (λ (b : Bool). b || eqb z (zoneOf s i j)) (same z) ∙ sym (among-more (zoneOf s i) j z)) go later h)))))
       where
         done : SheetRead
         done = sheetDone (sheetOf s)
 
         then : Step → SheetRead
-        then r = onStep r λ zone passing travel next. stepsFrom s i (stepCount s i) n (j + 1) (λ z. named z || eqb z zone) (withStep (atStep i j) (8 * i + j) zone passing travel) next go
+        then r =
+            onStep r λ zone passing travel next.
+            stepsFrom s i (stepCount s i) n (j + 1) (λ z. named z || eqb z zone) (withStep (atStep i j) (8 * i + j) zone passing travel) next go
 
     -- the sheet when cart i is next
     abbrev atCart : ℕ → Sheet
@@ -137,8 +168,15 @@ module _ (s : List ℕ) where
         taking-checks then NoHead done 1 s 4 (arrivalAt s i) 8 _ _ _ λ _ _.
         rw second
         (taking-checks then NoHead done 1 s 1 (stepCountAt s i) 9 _ _ _ λ _ k.
-        rw (third, table-next 16 (laneOf s) i (laneOf s i) _ below refl refl, table-next 16 (arrivalOf s) i (arrivalOf s i) _ below refl refl, table-next 16 (stepCount s) i (stepCount s i) _ below refl refl, table-next 16 (arrivalAt s) i (arrivalAt s i) _ below refl refl)
-        (steps-agree i (stepCount s i) 0 below (and-says _ _ (leb-says 1 (stepCount s i)) (leb-says (stepCount s i) 8) .0 k .1) (omega arith) _ (λ z. refl) _ (each n (i + 1) (cartChecks s) ++ last) (next (carts-agree n (i + 1) (omega arith))))))
+        rw (
+          third,
+          table-next 16 (laneOf s) i (laneOf s i) _ below refl refl,
+          table-next 16 (arrivalOf s) i (arrivalOf s i) _ below refl refl,
+          table-next 16 (stepCount s) i (stepCount s i) _ below refl refl,
+          table-next 16 (arrivalAt s) i (arrivalAt s i) _ below refl refl,
+        )
+        (steps-agree i (stepCount s i) 0 below (and-says _ _ (leb-says 1 (stepCount s i)) (leb-says (stepCount s i) 8) .0 k .1) (omega arith) _ (λ z. refl) _
+        (each n (i + 1) (cartChecks s) ++ last) (next (carts-agree n (i + 1) (omega arith))))))
       where
         done : SheetRead
         done = sheetDone (sheetOf s)
@@ -149,7 +187,9 @@ module _ (s : List ℕ) where
             stepsFrom s i (h .steps) (h .steps) 0 (λ z. false) (putCart (atCart i) i h) c λ sh c′.
             cartsFrom s n (i + 1) sh (set (spots i) i (h .place)) c′
 
-        next : cartsFrom s n (i + 1) (atCart (i + 1)) (spots (i + 1)) (record { at = cartAt s (i + 1) }) ≡ first (each n (i + 1) (cartChecks s) ++ last) → cartsFrom s n (i + 1) (atStep i (stepCount s i)) (spots (i + 1)) (record { at = zoneAt s i (stepCount s i) }) ≡ first (each n (i + 1) (cartChecks s) ++ last)
+        next : cartsFrom s n (i + 1) (atCart (i + 1)) (spots (i + 1)) (record { at = cartAt s (i + 1) }) ≡ first
+            (each n (i + 1) (cartChecks s) ++ last) → cartsFrom s n (i + 1) (atStep i (stepCount s i)) (spots (i + 1))
+            (record { at = zoneAt s i (stepCount s i) }) ≡ first (each n (i + 1) (cartChecks s) ++ last)
         next h = rw (← cart-next i, passed-cart s (zoneOf s) i, passed-cart s (passingOf s) i, passed-cart s (travelOf s) i) h
 
   -- what follows the gaps
@@ -162,10 +202,12 @@ module _ (s : List ℕ) where
   unfolding countFrom cartAt
   count-agrees =
       taking-checks (λ r. r) sheetRefused (sheetDone (sheetOf s)) 1 s 1 (cartCountAt s) 6 _ _ _ λ _ m.
-      ap (λ (spot : List ℕ). cartsFrom s (cartCount s) 0 (soFar (zoneCount s) (cartCount s) 0 0 0) spot (record { at = cartCountAt s + 1 })) (table-none 16 (arrivalAt s))
+      ap (λ (spot : List ℕ). cartsFrom s (cartCount s) 0 (soFar (zoneCount s) (cartCount s) 0 0 0) spot (record { at = cartCountAt s + 1 }))
+      (table-none 16 (arrivalAt s))
       ∙ carts-agree (leb-true (cartCount s) 16 m) (cartCount s) 0 (omega arith)
 
-  zones-agree : (n z : ℕ) → zoneCount s ≤ 24 → z + n ≡ zoneCount s → zonesFrom s n z (soFar z 0 0 0 0) (record { at = followAt z }) ≡ first (each n z (zoneChecks s) ++ carts)
+  zones-agree : (n z : ℕ) → zoneCount s ≤ 24 → z + n ≡ zoneCount s → zonesFrom s n z (soFar z 0 0 0 0) (record { at = followAt z }) ≡ first
+      (each n z (zoneChecks s) ++ carts)
   unfolding zonesFrom each zoneChecks
   zones-agree zero z l e = let q : z ≡ zoneCount s = omega arith in rw q count-agrees
   zones-agree (suc n) z l e =
@@ -174,7 +216,8 @@ module _ (s : List ℕ) where
       simp append-assoc
       (taking-checks (λ r. r) sheetRefused (sheetDone (sheetOf s)) 1 s 2 (followAt z) 5 _ _ _ λ _ _.
       taking-checks (λ r. r) sheetRefused (sheetDone (sheetOf s)) 1 s 2 (crossAt z) 5 _ _ _ λ _ _.
-      rw (next, table-next 24 (followOf s) z (followOf s z) _ below refl refl, table-next 24 (crossOf s) z (crossOf s z) _ below refl refl) (zones-agree n (z + 1) l (omega arith)))
+      rw (next, table-next 24 (followOf s) z (followOf s z) _ below refl refl, table-next 24 (crossOf s) z (crossOf s z) _ below refl refl)
+      (zones-agree n (z + 1) l (omega arith)))
 
   pub scan-agrees : scan s ≡ readSheet s
   unfolding scan openingBy readSheet sheetChecks

@@ -16,13 +16,16 @@ use Rattle.sheet_carts.proofs.scan_carts.Statement.{statement}
 use Rattle.sheet_carts.proofs.scan_carts.Tie as tie
 
 abbrev Inv-loop : tie.InvT-loop
-Inv-loop s n m sheet₀ spot at₀ outcome₀ i k seen₀ j₀ sheet at outcome seen j = (j ≤ k) × (outcome ≡ done) × (stepsFrom s i k k 0 (has seen₀) (sheetIn n m sheet₀) (record { at = at₀ }) (λ sh c. cartsFrom s (m - (i + 1)) (i + 1) sh spot c) ≡ stepsFrom s i k (k - j) j (has seen) (sheetIn n m sheet) (record { at = at }) (λ sh c. cartsFrom s (m - (i + 1)) (i + 1) sh spot c))
+Inv-loop s n m sheet₀ spot at₀ outcome₀ i k seen₀ j₀ sheet at outcome seen j = (j ≤ k) × (outcome ≡ done) ×
+    (stepsFrom s i k k 0 (has seen₀) (sheetIn n m sheet₀) (record { at = at₀ }) (λ sh c. cartsFrom s (m - (i + 1)) (i + 1) sh spot c)
+    ≡ stepsFrom s i k (k - j) j (has seen) (sheetIn n m sheet) (record { at = at }) (λ sh c. cartsFrom s (m - (i + 1)) (i + 1) sh spot c))
 
 abbrev μ-loop : tie.MeasureT-loop
 μ-loop s n m sheet₀ spot at₀ outcome₀ i k seen₀ j₀ sheet at outcome seen j = k - j
 
 abbrev Inv-scan : tie.InvT-scan
-Inv-scan s n m sheet₀ spot₀ at₀ outcome₀ i₀ sheet spot at outcome i = (i ≤ m) × (outcome ≡ done) × (cartsFrom s m 0 (sheetIn n m sheet₀) spot₀ (record { at = at₀ }) ≡ cartsFrom s (m - i) i (sheetIn n m sheet) spot (record { at = at }))
+Inv-scan s n m sheet₀ spot₀ at₀ outcome₀ i₀ sheet spot at outcome i = (i ≤ m) × (outcome ≡ done) ×
+    (cartsFrom s m 0 (sheetIn n m sheet₀) spot₀ (record { at = at₀ }) ≡ cartsFrom s (m - i) i (sheetIn n m sheet) spot (record { at = at }))
 
 abbrev μ-scan : tie.MeasureT-scan
 μ-scan s n m sheet₀ spot₀ at₀ outcome₀ i₀ sheet spot at outcome i = m - i
@@ -88,7 +91,14 @@ loop-less : tie.Need-loop-less Inv-loop μ-loop Inv-scan μ-scan
 loop-less c = search needs
 
 loop-again : tie.Need-loop-again Inv-loop μ-loop Inv-scan μ-scan
-loop-again c = (omega arith, c .before .before .before .before .before .before .before .before .loop .inv .1, c .before .before .before .before .before .before .before .before .loop .inv .2 ∙ steps-next _ _ _ _ _ _ _ _ (c .before .before .before .before .before .before .before .loop-test .taken) _ _ _ _ (sym (c .before .before .before .before .before .before .read-step .ensures) ∙ c .before .before .before .before .step2 .given .1) _ (λ x z. c .with .ensures z x) _ (c .before .put-step .ensures _ _))
+loop-again c = (
+  omega arith,
+  c .before .before .before .before .before .before .before .before .loop .inv .1,
+  c .before .before .before .before .before .before .before .before .loop .inv .2 ∙ steps-next _ _ _ _ _ _ _ _
+      (c .before .before .before .before .before .before .before .loop-test .taken) _ _ _ _
+      (sym (c .before .before .before .before .before .before .read-step .ensures) ∙ c .before .before .before .before .step2 .given .1) _
+      (λ x z. c .with .ensures z x) _ (c .before .put-step .ensures _ _),
+)
 
 add-i : tie.Need-add-i Inv-loop μ-loop Inv-scan μ-scan
 add-i c = search needs
@@ -97,16 +107,29 @@ scan-less : tie.Need-scan-less Inv-loop μ-loop Inv-scan μ-scan
 scan-less c = search needs
 
 scan-again : tie.Need-scan-again Inv-loop μ-loop Inv-scan μ-scan
-scan-again c = (omega arith, c .before .loop .inv .1, c .before .before .before .before .before .before .before .before .before .before .scan .inv .2 ∙ carts-head _ _ _ _ _ _ (c .before .before .before .before .before .before .before .before .before .scan-test .taken) _ _ (sym (c .before .before .before .before .before .before .before .before .read-head .ensures) ∙ c .before .before .before .before .before .before .head2 .given .1) _ (λ x z. has-none z x) _ (c .before .before .put-cart .ensures _ _) ∙ c .before .loop .inv .2 ∙ steps-end _ _ _ _ _ _ _ _ (c .loop-test .left))
+scan-again c = (
+  omega arith,
+  c .before .loop .inv .1,
+  c .before .before .before .before .before .before .before .before .before .before .scan .inv .2
+      ∙ carts-head _ _ _ _ _ _ (c .before .before .before .before .before .before .before .before .before .scan-test .taken) _ _
+      (sym (c .before .before .before .before .before .before .before .before .read-head .ensures) ∙
+      c .before .before .before .before .before .before .head2 .given .1) _ (λ x z. has-none z x) _ (c .before .before .put-cart .ensures _ _) ∙
+      c .before .loop .inv .2 ∙ steps-end _ _ _ _ _ _ _ _ (c .loop-test .left),
+)
 
 returns : tie.Need-returns Inv-loop μ-loop Inv-scan μ-scan
 returns c = inl (c .before .scan .inv .1, c .before .scan .inv .2 ∙ carts-end _ _ _ _ _ _ (c .scan-test .left))
 
 returns-2 : tie.Need-returns-2 Inv-loop μ-loop Inv-scan μ-scan
-returns-2 c = let e = sym (c .before .before .before .read-head .ensures) ∙ c .before .head .given .1 in inr (head-refused _ _ _ e, c .before .before .before .before .before .scan .inv .2 ∙ carts-refused _ _ _ _ _ _ (c .before .before .before .before .scan-test .taken) _ e)
+returns-2 c = let e = sym (c .before .before .before .read-head .ensures) ∙ c .before .head .given .1 in inr (
+  head-refused _ _ _ e,
+  c .before .before .before .before .before .scan .inv .2 ∙ carts-refused _ _ _ _ _ _
+      (c .before .before .before .before .scan-test .taken) _ e,
+)
 
 returns-3 : tie.Need-returns-3 Inv-loop μ-loop Inv-scan μ-scan
-returns-3 c = let e = sym (c .before .before .before .read-step .ensures) ∙ c .before .step .given .1 in inr (step-refused _ _ _ _ _ _ _ e, c .before .before .before .before .before .before .before .before .before .before .before .before .before .before .scan .inv .2 ∙ carts-head _ _ _ _ _ _ (c .before .before .before .before .before .before .before .before .before .before .before .before .before .scan-test .taken) _ _ (sym (c .before .before .before .before .before .before .before .before .before .before .before .before .read-head .ensures) ∙ c .before .before .before .before .before .before .before .before .before .before .head2 .given .1) _ (λ x z. has-none z x) _ (c .before .before .before .before .before .before .put-cart .ensures _ _) ∙ c .before .before .before .before .before .loop .inv .2 ∙ steps-refused _ _ _ _ _ _ _ _ (c .before .before .before .before .loop-test .taken) _ e)
+returns-3 c = let e = sym (c .before .before .before .read-step .ensures) ∙ c .before .step .given .1 in inr
+    (step-refused _ _ _ _ _ _ _ e, c .before .before .before .before .before .before .before .before .before .before .before .before .before .before .scan .inv .2 ∙ carts-head _ _ _ _ _ _ (c .before .before .before .before .before .before .before .before .before .before .before .before .before .scan-test .taken) _ _ (sym (c .before .before .before .before .before .before .before .before .before .before .before .before .read-head .ensures) ∙ c .before .before .before .before .before .before .before .before .before .before .head2 .given .1) _ (λ x z. has-none z x) _ (c .before .before .before .before .before .before .put-cart .ensures _ _) ∙ c .before .before .before .before .before .loop .inv .2 ∙ steps-refused _ _ _ _ _ _ _ _ (c .before .before .before .before .loop-test .taken) _ e)
 
 pub scan-carts-spec : {M : Type 1} → statement M
 scan-carts-spec =

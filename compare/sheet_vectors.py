@@ -214,10 +214,14 @@ def repeats():
     done('a zone in the routes of two carts', one_zone(cart(), cart()))
     refused(11, 24, 'step 0\'s zone on step 1', one_cart(step(0), step(0)))
     refused(11, 29, 'step 0\'s zone on step 2', one_cart(step(1), step(0), step(1)))
-    refused(11, 78, 'step 0\'s zone on step 7', one_cart(*[step(z) for z in range(7)], step(0), n=8))
+    for j in range(1, 8):
+        refused(11, 43 + 5 * j, 'step 0\'s zone on step %d of eight' % j,
+                one_cart(*[step(0 if z == j else z) for z in range(8)], n=8))
     refused(11, 78, 'step 6\'s zone on step 7', one_cart(*[step(z) for z in range(7)], step(6), n=8))
+    refused(11, 112, 'zone 23, the highest, on steps 0 and 1', one_cart(step(23), step(23), n=24))
     refused(11, 24, 'step 0\'s zone on step 1, and nothing after', one_cart(step(1), '01'))
     refused(11, 35, 'in cart 1 alone', sheet(zones(2), '02', cart(route=[step(0)]), cart(route=[step(1), step(1)])))
+    refused(11, 35, 'a zone of cart 0\'s, twice in cart 1', sheet(zones(2), '02', cart(route=[step(0)]), cart(route=[step(0), step(0)])))
 
 
 def step_times():

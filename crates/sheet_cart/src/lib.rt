@@ -4,16 +4,17 @@ use fields::Field;
 use fields::four_bytes;
 use fields::one_byte;
 use fields::two_bytes;
-use sheet_table::Table;
+use sets::zones;
 use words::LATEST_ARRIVAL;
 use words::MOST_TIME;
 use words::Outcome;
 use words::refused;
 ghost use mathlib.Core.Path.{_≡_};
-ghost use Prim.Native.Nat.{_+_, _≤_, _<_};
+ghost use Prim.Native.Nat.{_≤_, _<_};
+ghost use lib.Dec.{leb};
+ghost use Rattle.sets.specs.inner.Member.{has};
 ghost use Rattle.sheet.specs.Checks.{mostTravel};
-ghost use Rattle.sheet_table.specs.inner.Parts.{zone};
-ghost use Rattle.sheet_cart.specs.inner.Parts.{headAt, inRoute, stepAt};
+ghost use Rattle.sheet_cart.specs.inner.Parts.{headAt, stepAt};
 
 // What a cart has before its steps, with the place of its arrival.
 pub struct CartHead {
@@ -68,41 +69,21 @@ pub fn read_head(s: &[u8], c: Cursor) -> Head
     Head::Got(head, c4)
 }
 
-// Whether z is among the j zones from base on: the walk back over the route's earlier steps.
-fn in_route(sheet: &Table, base: usize, j: usize, z: usize) -> bool
-    requires { ⌜ base + j ≤ 128 ⌝ }
-    ensures { λ r. ⌜ r ≡ inRoute (zone (now (sheet .entry))) base j z ⌝ }
-{
-    let mut k = 0;
-    while k < j {
-        if sheet_table::zone(sheet, base + k) == z {
-            return true;
-        }
-        k += 1;
-    }
-    false
-}
-
-// The largest travel time of step j of k.
-fn most_travel(j: usize, k: usize) -> u32
+// Whether t may be the travel time of step j of k.
+fn is_travel(t: u32, j: usize, k: usize) -> bool
     requires { ⌜ j < k ⌝ }
-    ensures { λ r. ⌜ r ≡ mostTravel j k ⌝ }
+    ensures { λ r. ⌜ r ≡ leb t (mostTravel j k) ⌝ }
 {
-    if j + 1 == k { 0 } else { MOST_TIME }
+    if MOST_TIME < t {
+        return false;
+    }
+    if j + 1 == k { t == 0 } else { true }
 }
 
-// Step j of k at c, of a route whose zones so far stand from base on; n zones.
-pub fn read_step(
-    s: &[u8],
-    c: Cursor,
-    n: usize,
-    sheet: &Table,
-    base: usize,
-    j: usize,
-    k: usize,
-) -> Step
-    requires { ⌜ (j < k) × (base + j < 128) × (n ≤ 24) ⌝ }
-    ensures { λ r. ⌜ r ≡ stepAt (now (s .entry)) n (zone (now (sheet .entry))) base j k c ⌝ }
+// Step j of k at c, of a route whose earlier steps name the zones seen; n zones.
+pub fn read_step(s: &[u8], c: Cursor, n: usize, seen: u32, j: usize, k: usize) -> Step
+    requires { ⌜ (j < k) × (n ≤ 24) ⌝ }
+    ensures { λ r. ⌜ r ≡ stepAt (now (s .entry)) n (has seen) j k c ⌝ }
 {
     let Field::Value(z, c2) = one_byte(s, c) else {
         return Step::Refused(refused(1, c.at));
@@ -110,7 +91,7 @@ pub fn read_step(
     if n <= z as usize {
         return Step::Refused(refused(10, c.at));
     }
-    if in_route(sheet, base, j, z as usize) {
+    if zones::has(seen, z as usize) {
         return Step::Refused(refused(11, c.at));
     }
     let Field::Value(p, c3) = two_bytes(s, c2) else {
@@ -122,7 +103,7 @@ pub fn read_step(
     let Field::Value(t, c4) = two_bytes(s, c3) else {
         return Step::Refused(refused(1, c3.at));
     };
-    if most_travel(j, k) < t {
+    if !is_travel(t, j, k) {
         return Step::Refused(refused(12, c3.at));
     }
     Step::Got(z as u8, p as u16, t as u16, c4)

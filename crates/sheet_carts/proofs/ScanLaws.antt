@@ -1,8 +1,9 @@
 -- One turn of each loop of the scan, over what is left: `m - i` of m carts, `k - j` of k steps.
 use Prim.Native.Nat.{ℕ, _+_, _-_, _*_, _≤_, _<_}
 use mathlib.Core.Path.{_≡_}
-use mathlib.Core.Bool.{true, false}
+use mathlib.Core.Bool.{Bool, true, false, _||_}
 use mathlib.Core.List.{List}
+use lib.Dec.{eqb}
 use lib.ListN.{length, getD, set}
 use borrow.Author.Tests.{eq-eqb, ne-eqb}
 use Rattle.words.specs.Checks.{refused}
@@ -30,26 +31,28 @@ module _ (s : List ℕ) (m i : ℕ) (sh : Sheet) (spot : List ℕ) (c : Cursor) 
   unfolding cartsFrom
   carts-refused h outcome e = rw (left-suc m i h, e)
 
-  pub carts-head : i < m → (h : CartHead) (next : Cursor) → headAt s c ≡ GotHead h next → (put : Sheet) → put ≡ putCart sh i h → cartsFrom s (m - i)
-      i sh spot c ≡ stepsFrom s i (h .steps) (h .steps) 0 put next (λ sh′ c′. cartsFrom s (m - (i + 1)) (i + 1) sh′ (set spot i (h .place)) c′)
+  pub carts-head : i < m → (h : CartHead) (next : Cursor) → headAt s c ≡ GotHead h next
+      → (named : ℕ → Bool) → named ≡ (λ z. false) → (put : Sheet) → put ≡ putCart sh i h
+      → cartsFrom s (m - i) i sh spot c ≡ stepsFrom s i (h .steps) (h .steps) 0 named put next
+      (λ sh′ c′. cartsFrom s (m - (i + 1)) (i + 1) sh′ (set spot i (h .place)) c′)
   unfolding cartsFrom
-  carts-head l h next e put q = rw (left-suc m i l, e, q)
+  carts-head l h next e named none put q = rw (left-suc m i l, e, none, q)
 
-module _ (s : List ℕ) (i k j : ℕ) (sh : Sheet) (c : Cursor) (go : Sheet → Cursor → SheetRead) where
-  pub steps-end : k ≤ j → stepsFrom s i k (k - j) j sh c go ≡ go sh c
+module _ (s : List ℕ) (i k j : ℕ) (named : ℕ → Bool) (sh : Sheet) (c : Cursor) (go : Sheet → Cursor → SheetRead) where
+  pub steps-end : k ≤ j → stepsFrom s i k (k - j) j named sh c go ≡ go sh c
   unfolding stepsFrom
   steps-end h = rw (left-zero k j h)
 
-  pub steps-refused : j < k → (outcome : Outcome) → stepAt s (sh .zones) (sh .zone) (8 * i) j k c ≡ NoStep outcome → stepsFrom s i k (k - j) j sh c
-      go ≡ sheetRefused outcome
+  pub steps-refused : j < k → (outcome : Outcome) → stepAt s (sh .zones) named j k c ≡ NoStep outcome
+      → stepsFrom s i k (k - j) j named sh c go ≡ sheetRefused outcome
   unfolding stepsFrom
   steps-refused h outcome e = rw (left-suc k j h, e)
 
-  pub steps-next : j < k → (zone passing travel : ℕ) (next : Cursor) → stepAt s (sh .zones) (sh .zone) (8 * i) j k c ≡ GotStep zone passing travel
-      next → (put : Sheet) → put ≡ withStep sh (8 * i + j) zone passing travel → stepsFrom s i k (k - j) j sh c go ≡ stepsFrom s i k (k - (j + 1))
-      (j + 1) put next go
+  pub steps-next : j < k → (zone passing travel : ℕ) (next : Cursor) → stepAt s (sh .zones) named j k c ≡ GotStep zone passing travel next
+      → (more : ℕ → Bool) → more ≡ (λ z. named z || eqb z zone) → (put : Sheet) → put ≡ withStep sh (8 * i + j) zone passing travel
+      → stepsFrom s i k (k - j) j named sh c go ≡ stepsFrom s i k (k - (j + 1)) (j + 1) more put next go
   unfolding stepsFrom
-  steps-next h zone passing travel next e put q = rw (left-suc k j h, e, q)
+  steps-next h zone passing travel next e more with put q = rw (left-suc k j h, e, with, q)
 
 module _ (s : List ℕ) (sh : Sheet) (spot : List ℕ) (c : Cursor) where
   pub finish-refused : (c .at ≡ length s → ⊥) → finish s sh spot c ≡ sheetRefused (refused 13 (c .at))

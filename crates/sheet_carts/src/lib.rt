@@ -1,5 +1,6 @@
 // All carts read: nested loops, left at the first byte that breaks a rule.
 use fields::Cursor;
+use sets::zones;
 use sheet_cart::Head;
 use sheet_cart::Step;
 use sheet_cart::read_head;
@@ -65,6 +66,7 @@ pub struct Reached {
 }
 
 // The m carts of n zones: nested loops over carts and steps, left by the label at the first byte that breaks a rule.
+// seen holds the zones that the cart's route has named so far.
 fn scan_carts(
     s: &[u8],
     c: Cursor,
@@ -93,17 +95,18 @@ fn scan_carts(
                 put_cart(sheet, i, h.lane, h.arrival, h.steps);
                 spot[i] = h.place;
                 at = next.at;
-                let base = 8 * i;
+                let mut seen = 0u32;
                 let mut j = 0;
                 while j < k {
-                    let step = read_step(s, Cursor { at }, n, sheet, base, j, k);
+                    let step = read_step(s, Cursor { at }, n, seen, j, k);
                     match step {
                         Step::Refused(o) => {
                             outcome = o;
                             break 'scan;
                         }
                         Step::Got(z, p, t, next2) => {
-                            put_step(sheet, base + j, z, p, t);
+                            put_step(sheet, 8 * i + j, z, p, t);
+                            seen = zones::with(seen, z as usize);
                             at = next2.at;
                         }
                     }

@@ -1,17 +1,18 @@
 -- The one pass is the table's answer: each turn of a loop makes the checks of one zone, step or cart, in their order.
 use Prim.Native.Nat.{ℕ, zero, suc, _+_, _*_, _≤_, _<_}
 use mathlib.Core.Path.{_≡_, refl, sym, ap, _∙_}
+use mathlib.Core.Bool.{Bool, false, _||_}
 use mathlib.Core.List.{List, [], _∷_, _++_, append-assoc}
 use native.Mathlib.Omega.{arith}
 use native.Mathlib.Numerals.{add-one}
 use lib.Dec.{eqb}
 use lib.ListN.{length, set}
 use borrow.Author.Tests.{leb-true}
-use Rattle.words.specs.Lists.{each, table}
+use Rattle.words.specs.Lists.{anyBelow, each, table}
 use Rattle.words.specs.Checks.{Check, check, firstFailing}
 use Rattle.words.proofs.Any.{any-same}
 use Rattle.words.proofs.Filling.{table-none, table-next, table-used}
-use Rattle.words.proofs.Tests.{leb-says, and-says}
+use Rattle.words.proofs.Tests.{leb-says, and-says, among-more}
 use Rattle.fields.specs.declared.Cursor.{Cursor}
 use Rattle.fields.proofs.TakingLaws.{taking-checks, pick-checks, unless-checks}
 use Rattle.sheet.specs.Layout.{zoneCount, followAt, followOf, crossAt, crossOf, cartCountAt, cartCount, cartAt, laneAt, laneOf, arrivalAt, arrivalOf}
@@ -20,7 +21,7 @@ use Rattle.sheet.specs.Checks.{field, isCartCount, isNamedBefore, arrivesEarly,
 use Rattle.sheet.specs.Reading.{blank, sheetRefused, sheetDone, sheetOf, readSheet}
 use Rattle.sheet.specs.declared.Sheet.{Sheet}
 use Rattle.sheet.specs.declared.SheetRead.{SheetRead}
-use Rattle.sheet_cart.specs.inner.Parts.{headAt, inRoute, stepAt}
+use Rattle.sheet_cart.specs.inner.Parts.{headAt, stepAt}
 use Rattle.sheet_cart.specs.declared.Head.{Head}
 use Rattle.sheet_cart.specs.declared.Head.the-variants.{Refused as NoHead}
 use Rattle.sheet_cart.specs.declared.Step.{Step}
@@ -31,7 +32,7 @@ use Rattle.opening.specs.declared.Opening.{Opening}
 use Rattle.opening.specs.declared.Opening.the-variants.{Refused}
 use Rattle.sheet_carts.specs.inner.Scan.{putCart, early, lanesFrom, finish, onStep, onHead, stepsFrom, cartsFrom}
 use Rattle.sheet_reader.specs.inner.Scan.{withZones, countFrom, zonesFrom, scan}
-use Rattle.sheet_reader.proofs.Tables.{passed, passed-none, passed-at, passed-put, passed-cart, passed-all}
+use Rattle.sheet_reader.proofs.Tables.{passed, passed-none, passed-put, passed-cart, passed-all}
 
 module _ (s : List ℕ) where
   -- the sheet when the gaps of z zones, the cart count, the heads of h carts, and the steps before step j of cart i are read
@@ -113,20 +114,22 @@ module _ (s : List ℕ) where
     abbrev atStep : ℕ → ℕ → Sheet
     atStep i j = soFar (zoneCount s) (cartCount s) (i + 1) i j
 
-    route-same : (i j : ℕ) → i < 16 → j ≤ 8 → (z : ℕ) → z ≡ zoneOf s i j → inRoute (passed s i j (zoneOf s)) (8 * i) j z ≡ isNamedBefore s i j
-    route-same i j hi hj z q = any-same _ _ j λ e l. rw (passed-at s (zoneOf s) i j e hi hj l, q)
+    -- the zones that the steps of cart i before step j name
+    abbrev namedBefore : ℕ → ℕ → ℕ → Bool
+    namedBefore i j z = anyBelow (λ e. eqb (zoneOf s i e) z) j
 
-    steps-agree : (i n j : ℕ) → i < 16 → stepCount s i ≤ 8 → j + n ≡ stepCount s i → (go : Sheet → Cursor → SheetRead) (later : List Check) → go
-        (atStep i (stepCount s i)) (record { at = zoneAt s i (stepCount s i) }) ≡ first later → stepsFrom s i (stepCount s i) n j (atStep i j)
-        (record { at = zoneAt s i j }) go ≡ first (each n j (stepChecks s i) ++ later)
+    steps-agree : (i n j : ℕ) → i < 16 → stepCount s i ≤ 8 → j + n ≡ stepCount s i
+        → (named : ℕ → Bool) → ((z : ℕ) → named z ≡ namedBefore i j z) → (go : Sheet → Cursor → SheetRead) (later : List Check)
+        → go (atStep i (stepCount s i)) (record { at = zoneAt s i (stepCount s i) }) ≡ first later
+        → stepsFrom s i (stepCount s i) n j named (atStep i j) (record { at = zoneAt s i j }) go ≡ first (each n j (stepChecks s i) ++ later)
     unfolding stepsFrom stepAt each stepChecks
-    steps-agree i zero j hi hk e go later h = let q : j ≡ stepCount s i = omega arith in rw q h
-    steps-agree i (suc n) j hi hk e go later h =
+    steps-agree i zero j hi hk e named same go later h = let q : j ≡ stepCount s i = omega arith in rw q h
+    steps-agree i (suc n) j hi hk e named same go later h =
         let third : passingAt s i j + 2 ≡ travelAt s i j = omega arith in
         let fourth : travelAt s i j + 2 ≡ zoneAt s i (j + 1) = omega arith in
         simp append-assoc
         (taking-checks then NoStep done 1 s 1 (zoneAt s i j) 10 _ _ _ λ _ _.
-        rw (route-same i j hi (omega arith) (zoneOf s i j) refl)
+        rw (same (zoneOf s i j))
         (unless-checks then NoStep done 11 (zoneAt s i j) (isNamedBefore s i j) _ _
         (taking-checks then NoStep done 1 s 2 (passingAt s i j) 12 _ _ _ λ _ _.
         rw third
@@ -138,20 +141,23 @@ module _ (s : List ℕ) where
           passed-put s (travelOf s) i j hi
               (omega arith),
         )
-        (steps-agree i n (j + 1) hi hk (omega arith) go later h)))))
+        (steps-agree i n (j + 1) hi hk (omega arith) _
+        (λ z. ap (λ (b : Bool). b || eqb z (zoneOf s i j)) (same z) ∙ sym (among-more (zoneOf s i) j z)) go later h)))))
       where
         done : SheetRead
         done = sheetDone (sheetOf s)
 
         then : Step → SheetRead
-        then r = onStep r λ zone passing travel next. stepsFrom s i (stepCount s i) n (j + 1) (withStep (atStep i j) (8 * i + j) zone passing travel) next go
+        then r =
+            onStep r λ zone passing travel next.
+            stepsFrom s i (stepCount s i) n (j + 1) (λ z. named z || eqb z zone) (withStep (atStep i j) (8 * i + j) zone passing travel) next go
 
     -- the sheet when cart i is next
     abbrev atCart : ℕ → Sheet
     atCart i = soFar (zoneCount s) (cartCount s) i i 0
 
     carts-agree : (n i : ℕ) → i + n ≡ cartCount s → cartsFrom s n i (atCart i) (spots i) (record { at = cartAt s i }) ≡ first (each n i (cartChecks s) ++ last)
-    unfolding cartsFrom headAt each cartChecks
+    unfolding cartsFrom headAt each cartChecks anyBelow
     carts-agree zero i e = let q : i ≡ cartCount s = omega arith in rw q finish-agrees
     carts-agree (suc n) i e =
         let second : arrivalAt s i + 4 ≡ stepCountAt s i = omega arith in
@@ -169,7 +175,7 @@ module _ (s : List ℕ) where
           table-next 16 (stepCount s) i (stepCount s i) _ below refl refl,
           table-next 16 (arrivalAt s) i (arrivalAt s i) _ below refl refl,
         )
-        (steps-agree i (stepCount s i) 0 below (and-says _ _ (leb-says 1 (stepCount s i)) (leb-says (stepCount s i) 8) .0 k .1) (omega arith) _
+        (steps-agree i (stepCount s i) 0 below (and-says _ _ (leb-says 1 (stepCount s i)) (leb-says (stepCount s i) 8) .0 k .1) (omega arith) _ (λ z. refl) _
         (each n (i + 1) (cartChecks s) ++ last) (next (carts-agree n (i + 1) (omega arith))))))
       where
         done : SheetRead
@@ -178,7 +184,7 @@ module _ (s : List ℕ) where
         then : Head → SheetRead
         then r =
             onHead r λ h c.
-            stepsFrom s i (h .steps) (h .steps) 0 (putCart (atCart i) i h) c λ sh c′.
+            stepsFrom s i (h .steps) (h .steps) 0 (λ z. false) (putCart (atCart i) i h) c λ sh c′.
             cartsFrom s n (i + 1) sh (set (spots i) i (h .place)) c′
 
         next : cartsFrom s n (i + 1) (atCart (i + 1)) (spots (i + 1)) (record { at = cartAt s (i + 1) }) ≡ first

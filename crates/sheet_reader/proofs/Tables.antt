@@ -1,10 +1,10 @@
 -- The steps as far as they are read, as tables: a row of 8 for each cart, filled one after the other.
-use Prim.Native.Nat.{ℕ, _+_, _*_, _≤_, _<_}
+use Prim.Native.Nat.{ℕ, _+_, _*_, _<_}
 use mathlib.Core.Path.{_≡_, refl}
 use mathlib.Core.List.{List}
 use native.Mathlib.Omega.{arith}
-use lib.ListN.{getD, set, replicate}
-use Rattle.words.proofs.Rows.{front, front-none, front-at, front-put, front-next, front-all}
+use lib.ListN.{set, replicate}
+use Rattle.words.proofs.Rows.{front, front-none, front-put, front-next, front-all}
 use Rattle.sheet.specs.Layout.{cartCount, stepCount}
 use Rattle.sheet.specs.Reading.{stepTable}
 
@@ -16,9 +16,6 @@ module _ (s : List ℕ) where
   module _ (rule : ℕ → ℕ → ℕ) where
     pub passed-none : replicate 128 0 ≡ passed 0 0 rule
     passed-none = front-none 128 8 (stepCount s) rule
-
-    pub passed-at : (i j e : ℕ) → i < 16 → j ≤ 8 → e < j → getD (passed i j rule) (8 * i + e) 0 ≡ rule i e
-    passed-at i j e hi hj he = front-at 128 8 (stepCount s) rule i j e (omega arith) (omega arith) he
 
     pub passed-put : (i j : ℕ) → i < 16 → j < 8 → set (passed i j rule) (8 * i + j) (rule i j) ≡ passed i (j + 1) rule
     passed-put i j hi hj = front-put 128 8 (stepCount s) rule i j (omega arith) hj

@@ -103,6 +103,8 @@ pub fn fill(s: &[u8], sheet: &mut Table) -> Counts
             }
             let c2 = Cursor { at: counts.at };
             counts.outcome = read_carts(s, c2, counts.zones, counts.carts, sheet);
+            // All is read; a place before the end need not be kept meanwhile.
+            counts.at = s.len();
             counts
         }
     }

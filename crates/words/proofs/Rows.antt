@@ -7,10 +7,10 @@ use native.Mathlib.Omega.{arith}
 use native.Mathlib.Nat.{mod-lt, div-add-mod}
 use native.Mathlib.Decide.{ℕ-discrete}
 use lib.Dec.{ltb}
-use lib.ListN.{getD, set, replicate}
+use lib.ListN.{set, replicate}
 use borrow.Author.Tests.{lt-ltb, le-ltb}
 use Rattle.words.specs.Lists.{pick, entries}
-use Rattle.words.proofs.Entries.{at-entry, zeros-are, same-entries, put-entry}
+use Rattle.words.proofs.Entries.{zeros-are, same-entries, put-entry}
 use Rattle.words.proofs.Tables.{row-at, column-at}
 use Rattle.words.proofs.Tests.{ltb-next}
 use Rattle.words.proofs.Filled.{filled, filled-here, filled-other, filled-none, filled-row, filled-all}
@@ -26,11 +26,6 @@ module _ (size width : ℕ) (count : ℕ → ℕ) (rule : ℕ → ℕ → ℕ) w
   pub rows-none : ((x : ℕ) → rule 0 x ≡ 0) → replicate size 0 ≡ rows 0 0
   unfolding rows
   rows-none h = zeros-are size (entry 0 0) λ x. rw (filled-none count (x / width)) (h x)
-
-  -- what stands in row z
-  pub rows-at : (z e i : ℕ) → width * z + i < size → i < width → getD (rows z e) (width * z + i) 0 ≡ rule e (width * z + i)
-  unfolding rows
-  rows-at z e i h l = at-entry size (entry z e) (width * z + i) h ∙ rw (row-at z i l, filled-here count z e)
 
   -- one entry more of row z, which stands at its i-th place
   pub rows-put : (z e i v : ℕ) → width * z + i < size → i < width → rule (e + 1) (width * z + i) ≡ v
@@ -74,9 +69,6 @@ module _ (size width : ℕ) (count : ℕ → ℕ) (rule : ℕ → ℕ → ℕ) w
 
   pub front-none : replicate size 0 ≡ front 0 0
   front-none = rows-none size width count (fromFront width rule) λ x. rw (le-ltb (x % width) 0 (omega arith))
-
-  pub front-at : (z e i : ℕ) → width * z + i < size → i < width → i < e → getD (front z e) (width * z + i) 0 ≡ rule z i
-  front-at z e i h l m = rows-at size width count (fromFront width rule) z e i h l ∙ in-row e z i l ∙ rw (lt-ltb i e m)
 
   pub front-put : (z e : ℕ) → width * z + e < size → e < width → set (front z e) (width * z + e) (rule z e) ≡ front z (e + 1)
   front-put z e h l =

@@ -1,10 +1,10 @@
 -- Each way out rewrites with the fields that are there and the tests that they pass, in the order of the fields.
 use mathlib.Core.Path.{sym, _∙_}
 use native.Mathlib.Omega.{arith}
-use borrow.Author.Tests.{lt-ltb, le-ltb, le-leb, lt-leb}
+use borrow.Author.Tests.{not-true, not-false, lt-ltb, le-ltb, le-leb, lt-leb}
 use Rattle.fields.specs.inner.Field.{taking}
 use Rattle.sheet_cart.specs.inner.Parts.{stepAt}
-use Rattle.sheet_cart.proofs.PartLaws.{travel-most}
+use Rattle.sheet_cart.proofs.PartLaws.{travel-fits}
 use borrow.Author.Needs.{needs}
 use Rattle.sheet_cart.proofs.read_step.Statement.{statement}
 use Rattle.sheet_cart.proofs.read_step.Tie as tie
@@ -39,11 +39,11 @@ returns-2 c = rw (
   le-ltb _ _ (c .before .if1 .taken),
 )
 
-cast-in-route : tie.Need-cast-in-route
-cast-in-route c = search needs
+cast-has : tie.Need-cast-has
+cast-has c = search needs
 
-in-route-requires : tie.Need-in-route-requires
-in-route-requires c κs = search needs
+has-requires : tie.Need-has-requires
+has-requires c κs = search needs
 
 refused-requires-3 : tie.Need-refused-requires-3
 refused-requires-3 c κs = search needs
@@ -56,7 +56,7 @@ returns-3 c = rw (
       c .before .before .before .before .before .z .given .1,
   lt-ltb _ _ (c .before .before .before .if1 .left),
   sym
-      (c .before .before .in-route .ensures) ∙ c .before .if2 .taken,
+      (c .before .before .has .ensures) ∙ c .before .if2 .taken,
 )
 
 two-bytes-requires : tie.Need-two-bytes-requires
@@ -79,7 +79,7 @@ returns-4 c = rw (
       c .before .before .before .before .before .before .before .before .z .given .1,
   lt-ltb _ _
       (c .before .before .before .before .before .before .if1 .left),
-  sym (c .before .before .before .before .before .in-route .ensures) ∙
+  sym (c .before .before .before .before .before .has .ensures) ∙
       c .before .before .before .before .if2 .left,
   sym (c .before .before .before .two-bytes .ensures) ∙ c .before .enum-told2 .given .1,
 )
@@ -89,7 +89,7 @@ refused-requires-5 c κs = search needs
 
 returns-5 : tie.Need-returns-5
 unfolding stepAt taking
-returns-5 c = rw (c .refused5 .ensures, sym (c .before .before .before .before .before .before .before .before .before .before .before .before .one-byte .ensures) ∙ c .before .before .before .before .before .before .before .before .before .before .z .given .1, lt-ltb _ _ (c .before .before .before .before .before .before .before .before .if1 .left), sym (c .before .before .before .before .before .before .before .in-route .ensures) ∙ c .before .before .before .before .before .before .if2 .left, sym (c .before .before .before .before .before .two-bytes .ensures) ∙ c .before .before .before .p .given .1, lt-leb _ _ (c .before .if3 .taken))
+returns-5 c = rw (c .refused5 .ensures, sym (c .before .before .before .before .before .before .before .before .before .before .before .before .one-byte .ensures) ∙ c .before .before .before .before .before .before .before .before .before .before .z .given .1, lt-ltb _ _ (c .before .before .before .before .before .before .before .before .if1 .left), sym (c .before .before .before .before .before .before .before .has .ensures) ∙ c .before .before .before .before .before .before .if2 .left, sym (c .before .before .before .before .before .two-bytes .ensures) ∙ c .before .before .before .p .given .1, lt-leb _ _ (c .before .if3 .taken))
 
 two-bytes-requires-2 : tie.Need-two-bytes-requires-2
 two-bytes-requires-2 c κs = search needs
@@ -105,30 +105,30 @@ refused-requires-6 c κs = search needs
 
 returns-6 : tie.Need-returns-6
 unfolding stepAt taking
-returns-6 c = rw (c .refused6 .ensures, sym (c .before .before .before .before .before .before .before .before .before .before .before .before .before .before .before .one-byte .ensures) ∙ c .before .before .before .before .before .before .before .before .before .before .before .before .before .z .given .1, lt-ltb _ _ (c .before .before .before .before .before .before .before .before .before .before .before .if1 .left), sym (c .before .before .before .before .before .before .before .before .before .before .in-route .ensures) ∙ c .before .before .before .before .before .before .before .before .before .if2 .left, sym (c .before .before .before .before .before .before .before .before .two-bytes .ensures) ∙ c .before .before .before .before .before .before .p .given .1, le-leb _ _ (c .before .before .before .before .if3 .left), sym (c .before .before .before .two-bytes2 .ensures) ∙ c .before .enum-told3 .given .1)
+returns-6 c = rw (c .refused6 .ensures, sym (c .before .before .before .before .before .before .before .before .before .before .before .before .before .before .before .one-byte .ensures) ∙ c .before .before .before .before .before .before .before .before .before .before .before .before .before .z .given .1, lt-ltb _ _ (c .before .before .before .before .before .before .before .before .before .before .before .if1 .left), sym (c .before .before .before .before .before .before .before .before .before .before .has .ensures) ∙ c .before .before .before .before .before .before .before .before .before .if2 .left, sym (c .before .before .before .before .before .before .before .before .two-bytes .ensures) ∙ c .before .before .before .before .before .before .p .given .1, le-leb _ _ (c .before .before .before .before .if3 .left), sym (c .before .before .before .two-bytes2 .ensures) ∙ c .before .enum-told3 .given .1)
 
-most-travel-requires : tie.Need-most-travel-requires
-most-travel-requires c κs = search needs
+is-travel-requires : tie.Need-is-travel-requires
+is-travel-requires c κs = search needs
 
 refused-requires-7 : tie.Need-refused-requires-7
 refused-requires-7 c κs = search needs
 
 returns-7 : tie.Need-returns-7
 unfolding stepAt taking
-returns-7 c = rw (c .refused7 .ensures, sym (c .before .before .before .before .before .before .before .before .before .before .before .before .before .before .before .before .before .before .one-byte .ensures) ∙ c .before .before .before .before .before .before .before .before .before .before .before .before .before .before .before .before .z .given .1, lt-ltb _ _ (c .before .before .before .before .before .before .before .before .before .before .before .before .before .before .if1 .left), sym (c .before .before .before .before .before .before .before .before .before .before .before .before .before .in-route .ensures) ∙ c .before .before .before .before .before .before .before .before .before .before .before .before .if2 .left, sym (c .before .before .before .before .before .before .before .before .before .before .before .two-bytes .ensures) ∙ c .before .before .before .before .before .before .before .before .before .p .given .1, le-leb _ _ (c .before .before .before .before .before .before .before .if3 .left), sym (c .before .before .before .before .before .before .two-bytes2 .ensures) ∙ c .before .before .before .before .t .given .1, sym (c .before .before .most-travel .ensures), lt-leb _ _ (c .before .if4 .taken))
+returns-7 c = rw (c .refused7 .ensures, sym (c .before .before .before .before .before .before .before .before .before .before .before .before .before .before .before .before .before .before .one-byte .ensures) ∙ c .before .before .before .before .before .before .before .before .before .before .before .before .before .before .before .before .z .given .1, lt-ltb _ _ (c .before .before .before .before .before .before .before .before .before .before .before .before .before .before .if1 .left), sym (c .before .before .before .before .before .before .before .before .before .before .before .before .before .has .ensures) ∙ c .before .before .before .before .before .before .before .before .before .before .before .before .if2 .left, sym (c .before .before .before .before .before .before .before .before .before .before .before .two-bytes .ensures) ∙ c .before .before .before .before .before .before .before .before .before .p .given .1, le-leb _ _ (c .before .before .before .before .before .before .before .if3 .left), sym (c .before .before .before .before .before .before .two-bytes2 .ensures) ∙ c .before .before .before .before .t .given .1, sym (c .before .before .is-travel .ensures) ∙ not-true _ (c .before .if4 .taken))
+
+cast-t27 : tie.Need-cast-t27
+cast-t27 c = search needs
 
 cast-t28 : tie.Need-cast-t28
 cast-t28 c = search needs
 
 cast-t29 : tie.Need-cast-t29
-cast-t29 c = search needs
-
-cast-t30 : tie.Need-cast-t30
-cast-t30 c = omega (arith, c .before .most-travel .ensures, travel-most (c .before .before .before .before .before .before .before .before .before .before .before .before .before .before .before .before .before .before .before .args .j) (c .before .before .before .before .before .before .before .before .before .before .before .before .before .before .before .before .before .before .before .args .k))
+cast-t29 c = omega (arith, travel-fits (c .before .before .before .t .given .0 .0) (c .before .before .before .before .before .before .before .before .before .before .before .before .before .before .before .before .before .before .before .args .j) (c .before .before .before .before .before .before .before .before .before .before .before .before .before .before .before .before .before .before .before .args .k) (sym (c .before .is-travel .ensures) ∙ not-false _ (c .if4 .left)))
 
 returns-8 : tie.Need-returns-8
 unfolding stepAt taking
-returns-8 c = rw (sym (c .before .before .before .before .before .before .before .before .before .before .before .before .before .before .before .before .before .one-byte .ensures) ∙ c .before .before .before .before .before .before .before .before .before .before .before .before .before .before .before .z .given .1, lt-ltb _ _ (c .before .before .before .before .before .before .before .before .before .before .before .before .before .if1 .left), sym (c .before .before .before .before .before .before .before .before .before .before .before .before .in-route .ensures) ∙ c .before .before .before .before .before .before .before .before .before .before .before .if2 .left, sym (c .before .before .before .before .before .before .before .before .before .before .two-bytes .ensures) ∙ c .before .before .before .before .before .before .before .before .p .given .1, le-leb _ _ (c .before .before .before .before .before .before .if3 .left), sym (c .before .before .before .before .before .two-bytes2 .ensures) ∙ c .before .before .before .t .given .1, sym (c .before .most-travel .ensures), le-leb _ _ (c .if4 .left))
+returns-8 c = rw (sym (c .before .before .before .before .before .before .before .before .before .before .before .before .before .before .before .before .before .one-byte .ensures) ∙ c .before .before .before .before .before .before .before .before .before .before .before .before .before .before .before .z .given .1, lt-ltb _ _ (c .before .before .before .before .before .before .before .before .before .before .before .before .before .if1 .left), sym (c .before .before .before .before .before .before .before .before .before .before .before .before .has .ensures) ∙ c .before .before .before .before .before .before .before .before .before .before .before .if2 .left, sym (c .before .before .before .before .before .before .before .before .before .before .two-bytes .ensures) ∙ c .before .before .before .before .before .before .before .before .p .given .1, le-leb _ _ (c .before .before .before .before .before .before .if3 .left), sym (c .before .before .before .before .before .two-bytes2 .ensures) ∙ c .before .before .before .t .given .1, sym (c .before .is-travel .ensures) ∙ not-false _ (c .if4 .left))
 
 pub read-step-spec : {M : Type 1} → statement M
 read-step-spec =
@@ -142,8 +142,8 @@ read-step-spec =
     cast-if1
     refused-requires-2
     returns-2
-    cast-in-route
-    in-route-requires
+    cast-has
+    has-requires
     refused-requires-3
     returns-3
     two-bytes-requires
@@ -158,10 +158,10 @@ read-step-spec =
     enum-told-3
     refused-requires-6
     returns-6
-    most-travel-requires
+    is-travel-requires
     refused-requires-7
     returns-7
+    cast-t27
     cast-t28
     cast-t29
-    cast-t30
     returns-8)

@@ -1,10 +1,9 @@
 -- A cart's head and one step of its route, as one pass over the bytes meets them.
-use Prim.Native.Nat.{ℕ, _+_}
+use Prim.Native.Nat.{ℕ}
 use mathlib.Core.Bool.{Bool}
 use mathlib.Core.List.{List}
-use lib.ListN.{getD}
-use lib.Dec.{leb, ltb, eqb}
-use Rattle.words.specs.Lists.{pick, anyBelow}
+use lib.Dec.{leb, ltb}
+use Rattle.words.specs.Lists.{pick}
 use Rattle.words.specs.Checks.{refused}
 use Rattle.fields.specs.inner.Field.{taking}
 use Rattle.fields.specs.declared.Cursor.{Cursor}
@@ -22,15 +21,11 @@ headAt s c =
     taking NoHead 1 s 1 c3 9 isStepCount λ steps c4.
     GotHead (record { lane = lane; arrival = arrival; place = c2 .at; steps = steps }) c4
 
--- whether z is among the j zones from base on
-abbrev pub inRoute : List ℕ → ℕ → ℕ → ℕ → Bool
-inRoute zones base j z = anyBelow (λ e. eqb (getD zones (base + e) 0) z) j
-
--- step j of k at c, of a route whose zones so far stand from base on; n zones
-unfoldable pub stepAt : List ℕ → ℕ → List ℕ → ℕ → ℕ → ℕ → Cursor → Step
-stepAt s n zones base j k c =
+-- step j of k at c, of a route whose earlier steps name the zones that pass the test; n zones
+unfoldable pub stepAt : List ℕ → ℕ → (ℕ → Bool) → ℕ → ℕ → Cursor → Step
+stepAt s n named j k c =
     taking NoStep 1 s 1 c 10 (λ z. ltb z n) λ z c2.
-    pick (inRoute zones base j z) (NoStep (refused 11 (c .at)))
+    pick (named z) (NoStep (refused 11 (c .at)))
     (taking NoStep 1 s 2 c2 12 isPassing λ p c3.
     taking NoStep 1 s 2 c3 12 (λ t. leb t (mostTravel j k)) λ t c4.
     GotStep z p t c4)

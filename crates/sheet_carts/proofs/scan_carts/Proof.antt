@@ -5,8 +5,10 @@ use mathlib.Core.Logic.{inl, inr}
 use native.Mathlib.Omega.{arith}
 use Rattle.words.specs.Checks.{done}
 use Rattle.words.proofs.Left.{left-all}
+use Rattle.sets.specs.inner.Member.{has}
+use Rattle.sets.proofs.Laws.{has-none}
 use Rattle.sheet_filling.specs.inner.Filled.{sheetIn}
-use Rattle.sheet_cart.proofs.PartLaws.{head-steps, head-refused, step-refused}
+use Rattle.sheet_cart.proofs.PartLaws.{head-steps, head-refused, step-zone, step-refused}
 use Rattle.sheet_carts.specs.inner.Scan.{cartsFrom, stepsFrom}
 use Rattle.sheet_carts.proofs.ScanLaws.{carts-end, carts-refused, carts-head, steps-end, steps-refused, steps-next}
 use borrow.Author.Needs.{needs}
@@ -14,12 +16,12 @@ use Rattle.sheet_carts.proofs.scan_carts.Statement.{statement}
 use Rattle.sheet_carts.proofs.scan_carts.Tie as tie
 
 abbrev Inv-loop : tie.InvT-loop
-Inv-loop s n m sheet₀ spot at₀ outcome₀ i k base j₀ sheet at outcome j = (j ≤ k) × (outcome ≡ done) ×
-    (stepsFrom s i k k 0 (sheetIn n m sheet₀) (record { at = at₀ }) (λ sh c. cartsFrom s (m - (i + 1)) (i + 1) sh spot c) ≡ stepsFrom s i k (k - j) j
-    (sheetIn n m sheet) (record { at = at }) (λ sh c. cartsFrom s (m - (i + 1)) (i + 1) sh spot c))
+Inv-loop s n m sheet₀ spot at₀ outcome₀ i k seen₀ j₀ sheet at outcome seen j = (j ≤ k) × (outcome ≡ done) ×
+    (stepsFrom s i k k 0 (has seen₀) (sheetIn n m sheet₀) (record { at = at₀ }) (λ sh c. cartsFrom s (m - (i + 1)) (i + 1) sh spot c)
+    ≡ stepsFrom s i k (k - j) j (has seen) (sheetIn n m sheet) (record { at = at }) (λ sh c. cartsFrom s (m - (i + 1)) (i + 1) sh spot c))
 
 abbrev μ-loop : tie.MeasureT-loop
-μ-loop s n m sheet₀ spot at₀ outcome₀ i k base j₀ sheet at outcome j = k - j
+μ-loop s n m sheet₀ spot at₀ outcome₀ i k seen₀ j₀ sheet at outcome seen j = k - j
 
 abbrev Inv-scan : tie.InvT-scan
 Inv-scan s n m sheet₀ spot₀ at₀ outcome₀ i₀ sheet spot at outcome i = (i ≤ m) × (outcome ≡ done) ×
@@ -55,23 +57,11 @@ mul-spot c = search needs
 element-write-spot : tie.Need-element-write-spot Inv-loop μ-loop Inv-scan μ-scan
 element-write-spot c = search needs
 
-mul-base : tie.Need-mul-base Inv-loop μ-loop Inv-scan μ-scan
-mul-base c = search needs
-
 loop-holds : tie.Need-loop-holds Inv-loop μ-loop Inv-scan μ-scan
 loop-holds c = (omega arith, c .before .before .before .before .before .before .before .before .scan .inv .1, rw left-all)
 
 read-step-requires : tie.Need-read-step-requires Inv-loop μ-loop Inv-scan μ-scan
-read-step-requires c κs = (
-  omega arith,
-  omega (
-    arith,
-    head-steps _ _ _ _ (sym
-        (c .before .before .before .before .before .before .before .before .before .read-head .ensures) ∙
-        c .before .before .before .before .before .before .before .head2 .given .1),
-  ),
-  omega arith,
-)
+read-step-requires c κs = search needs
 
 enum-known-step : tie.Need-enum-known-step Inv-loop μ-loop Inv-scan μ-scan
 enum-known-step c = search needs
@@ -79,11 +69,20 @@ enum-known-step c = search needs
 enum-known-step-2 : tie.Need-enum-known-step-2 Inv-loop μ-loop Inv-scan μ-scan
 enum-known-step-2 c = search needs
 
+mul-put-step : tie.Need-mul-put-step Inv-loop μ-loop Inv-scan μ-scan
+mul-put-step c = omega (arith, c .before .before .before .before .before .before .before .before .before .before .before .before .before .before .before .before .before .before .pre .1)
+
 add-put-step : tie.Need-add-put-step Inv-loop μ-loop Inv-scan μ-scan
-add-put-step c = omega (arith, head-steps _ _ _ _ (sym (c .before .before .before .before .before .before .before .before .before .before .before .before .before .before .read-head .ensures) ∙ c .before .before .before .before .before .before .before .before .before .before .before .before .head2 .given .1), c .before .before .before .before .before .before .before .before .before .before .before .before .before .before .before .before .before .before .before .pre .1)
+add-put-step c = omega (arith, head-steps _ _ _ _ (sym (c .before .before .before .before .before .before .before .before .before .before .before .before .before .read-head .ensures) ∙ c .before .before .before .before .before .before .before .before .before .before .before .head2 .given .1), c .before .before .before .before .before .before .before .before .before .before .before .before .before .before .before .before .before .before .pre .1)
 
 put-step-requires : tie.Need-put-step-requires Inv-loop μ-loop Inv-scan μ-scan
-put-step-requires c κs = omega (arith, head-steps _ _ _ _ (sym (c .before .before .before .before .before .before .before .before .before .before .before .before .before .before .read-head .ensures) ∙ c .before .before .before .before .before .before .before .before .before .before .before .before .head2 .given .1), c .before .before .before .before .before .before .before .before .before .before .before .before .before .before .before .before .before .before .before .pre .1)
+put-step-requires c κs = omega (arith, head-steps _ _ _ _ (sym (c .before .before .before .before .before .before .before .before .before .before .before .before .before .read-head .ensures) ∙ c .before .before .before .before .before .before .before .before .before .before .before .head2 .given .1), c .before .before .before .before .before .before .before .before .before .before .before .before .before .before .before .before .before .before .pre .1)
+
+cast-with : tie.Need-cast-with Inv-loop μ-loop Inv-scan μ-scan
+cast-with c = search needs
+
+with-requires : tie.Need-with-requires Inv-loop μ-loop Inv-scan μ-scan
+with-requires c κs = omega (arith, step-zone _ _ _ _ _ _ _ _ _ _ (sym (c .before .before .before .before .before .read-step .ensures) ∙ c .before .before .before .step2 .given .1), c .before .before .before .before .before .before .before .before .before .before .before .before .before .before .before .before .before .before .before .pre .0)
 
 add-j : tie.Need-add-j Inv-loop μ-loop Inv-scan μ-scan
 add-j c = omega (arith, head-steps _ _ _ _ (sym (c .before .before .before .before .before .before .before .before .before .before .before .before .before .before .before .read-head .ensures) ∙ c .before .before .before .before .before .before .before .before .before .before .before .before .before .head2 .given .1))
@@ -95,9 +94,10 @@ loop-again : tie.Need-loop-again Inv-loop μ-loop Inv-scan μ-scan
 loop-again c = (
   omega arith,
   c .before .before .before .before .before .before .before .before .loop .inv .1,
-  c .before .before .before .before .before .before .before .before .loop .inv .2 ∙ steps-next _ _ _ _ _ _ _
+  c .before .before .before .before .before .before .before .before .loop .inv .2 ∙ steps-next _ _ _ _ _ _ _ _
       (c .before .before .before .before .before .before .before .loop-test .taken) _ _ _ _
-      (sym (c .before .before .before .before .before .read-step .ensures) ∙ c .before .before .before .step2 .given .1) _ (c .put-step .ensures _ _),
+      (sym (c .before .before .before .before .before .before .read-step .ensures) ∙ c .before .before .before .before .step2 .given .1) _
+      (λ x z. c .with .ensures z x) _ (c .before .put-step .ensures _ _),
 )
 
 add-i : tie.Need-add-i Inv-loop μ-loop Inv-scan μ-scan
@@ -113,8 +113,8 @@ scan-again c = (
   c .before .before .before .before .before .before .before .before .before .before .scan .inv .2
       ∙ carts-head _ _ _ _ _ _ (c .before .before .before .before .before .before .before .before .before .scan-test .taken) _ _
       (sym (c .before .before .before .before .before .before .before .before .read-head .ensures) ∙
-      c .before .before .before .before .before .before .head2 .given .1) _ (c .before .before .put-cart .ensures _ _) ∙ c .before .loop .inv .2 ∙
-      steps-end _ _ _ _ _ _ _ (c .loop-test .left),
+      c .before .before .before .before .before .before .head2 .given .1) _ (λ x z. has-none z x) _ (c .before .before .put-cart .ensures _ _) ∙
+      c .before .loop .inv .2 ∙ steps-end _ _ _ _ _ _ _ _ (c .loop-test .left),
 )
 
 returns : tie.Need-returns Inv-loop μ-loop Inv-scan μ-scan
@@ -129,7 +129,7 @@ returns-2 c = let e = sym (c .before .before .before .read-head .ensures) ∙ c 
 
 returns-3 : tie.Need-returns-3 Inv-loop μ-loop Inv-scan μ-scan
 returns-3 c = let e = sym (c .before .before .before .read-step .ensures) ∙ c .before .step .given .1 in inr
-    (step-refused _ _ _ _ _ _ _ _ e, c .before .before .before .before .before .before .before .before .before .before .before .before .before .before .before .scan .inv .2 ∙ carts-head _ _ _ _ _ _ (c .before .before .before .before .before .before .before .before .before .before .before .before .before .before .scan-test .taken) _ _ (sym (c .before .before .before .before .before .before .before .before .before .before .before .before .before .read-head .ensures) ∙ c .before .before .before .before .before .before .before .before .before .before .before .head2 .given .1) _ (c .before .before .before .before .before .before .before .put-cart .ensures _ _) ∙ c .before .before .before .before .before .before .loop .inv .2 ∙ steps-refused _ _ _ _ _ _ _ (c .before .before .before .before .before .loop-test .taken) _ e)
+    (step-refused _ _ _ _ _ _ _ e, c .before .before .before .before .before .before .before .before .before .before .before .before .before .before .scan .inv .2 ∙ carts-head _ _ _ _ _ _ (c .before .before .before .before .before .before .before .before .before .before .before .before .before .scan-test .taken) _ _ (sym (c .before .before .before .before .before .before .before .before .before .before .before .before .read-head .ensures) ∙ c .before .before .before .before .before .before .before .before .before .before .head2 .given .1) _ (λ x z. has-none z x) _ (c .before .before .before .before .before .before .put-cart .ensures _ _) ∙ c .before .before .before .before .before .loop .inv .2 ∙ steps-refused _ _ _ _ _ _ _ _ (c .before .before .before .before .loop-test .taken) _ e)
 
 pub scan-carts-spec : {M : Type 1} → statement M
 scan-carts-spec =
@@ -148,13 +148,15 @@ scan-carts-spec =
     put-cart-requires
     mul-spot
     element-write-spot
-    mul-base
     loop-holds
     read-step-requires
     enum-known-step
     enum-known-step-2
+    mul-put-step
     add-put-step
     put-step-requires
+    cast-with
+    with-requires
     add-j
     loop-less
     loop-again

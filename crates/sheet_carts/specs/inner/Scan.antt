@@ -1,6 +1,6 @@
 -- The carts of a sheet and what follows them, as one pass meets them. Each definition is the rest of the work from a cursor on.
 use Prim.Native.Nat.{ℕ, zero, suc, _+_, _*_}
-use mathlib.Core.Bool.{Bool, _&&_}
+use mathlib.Core.Bool.{Bool, false, _&&_, _||_}
 use mathlib.Core.List.{List}
 use lib.ListN.{length, getD, set}
 use lib.Dec.{ltb, eqb}
@@ -50,17 +50,17 @@ abbrev pub onHead : Head → (CartHead → Cursor → SheetRead) → SheetRead
 onHead (GotHead h next) go = go h next
 onHead (NoHead outcome) go = sheetRefused outcome
 
--- n steps from j on, of the k that cart i has; then on
-unfoldable pub stepsFrom : List ℕ → ℕ → ℕ → ℕ → ℕ → Sheet → Cursor → (Sheet → Cursor → SheetRead) → SheetRead
-stepsFrom s i k zero j sh c go = go sh c
-stepsFrom s i k (suc n) j sh c go =
-    onStep (stepAt s (sh .zones) (sh .zone) (8 * i) j k c) λ zone passing travel next.
-    stepsFrom s i k n (j + 1) (withStep sh (8 * i + j) zone passing travel) next go
+-- n steps from j on, of the k that cart i has, where those before name the zones that pass the test; then on
+unfoldable pub stepsFrom : List ℕ → ℕ → ℕ → ℕ → ℕ → (ℕ → Bool) → Sheet → Cursor → (Sheet → Cursor → SheetRead) → SheetRead
+stepsFrom s i k zero j named sh c go = go sh c
+stepsFrom s i k (suc n) j named sh c go =
+    onStep (stepAt s (sh .zones) named j k c) λ zone passing travel next.
+    stepsFrom s i k n (j + 1) (λ z. named z || eqb z zone) (withStep sh (8 * i + j) zone passing travel) next go
 
 -- n carts from i on, with the places of the arrivals so far; then what follows the carts
 unfoldable pub cartsFrom : List ℕ → ℕ → ℕ → Sheet → List ℕ → Cursor → SheetRead
 cartsFrom s zero i sh spot c = finish s sh spot c
 cartsFrom s (suc n) i sh spot c =
     onHead (headAt s c) λ h next.
-    stepsFrom s i (h .steps) (h .steps) 0 (putCart sh i h) next λ sh′ c′.
+    stepsFrom s i (h .steps) (h .steps) 0 (λ z. false) (putCart sh i h) next λ sh′ c′.
     cartsFrom s n (i + 1) sh′ (set spot i (h .place)) c′

@@ -21,7 +21,9 @@ bool same_table(const A& a, const B& b) {
   return std::memcmp(&a, &b, sizeof a) == 0;
 }
 
-bool same_outcome(const oblakosh_outcome& a, const yardstick::Outcome& b) { return a.number == b.number && a.place == b.place; }
+bool same_outcome(const oblakosh_outcome& a, const yardstick::Outcome& b) {
+  return a.number == b.number && a.place == b.place && a.cart == b.cart && a.step == b.step;
+}
 
 bool same_sheet(const oblakosh_sheet& a, const yardstick::Sheet& b) {
   return a.zones == b.zones && a.carts == b.carts && same_table(a.follow, b.follow) && same_table(a.cross, b.cross) &&

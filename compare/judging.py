@@ -98,7 +98,7 @@ def ring_of(carts, lists, at):
 
 
 def shown_locked(ring):
-    return ['refused 22 at 0'] + [
+    return [sheets.Refused(22, 0).line()] + [
         'cart %d waits at zone %d for cart %d' % (number, zone, ring[(place + 1) % len(ring)][0])
         for place, (number, zone) in enumerate(ring)]
 
@@ -113,9 +113,9 @@ def shown_accepted(carts, entered, moves):
 
 def shown(sheet, plan):
     """What our judge prints of a sheet and a plan, as a list of lines."""
-    number, place, carts, lists = plans.read(sheet, plan)
-    if number:
-        return ['refused %d at %d' % (number, place)]
+    refusal, carts, lists = plans.read(sheet, plan)
+    if refusal:
+        return [refusal.line()]
     gaps, _ = sheets.read_all(sheet)
     moves, at = moves_of(carts, lists)
     if any(at[cart] <= len(carts[cart]['route']) for cart in range(len(carts))):

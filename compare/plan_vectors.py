@@ -3,7 +3,7 @@
 
 plan_vectors.py > crates/vectors/data/plans.txt
 
-The numbers and places are written here by hand from document 01; programs.py checks them by reading the plans.
+The numbers and places are written here by hand from document 01, the carts and steps told from #104; programs.py checks them by reading the plans.
 """
 from sheet_vectors import S, cart, done, group, one_zone, refused, sheet, step, zones
 
@@ -71,14 +71,21 @@ def refused_sheets():
     group('1 to 14: the sheet comes fully before the plan')
     refused(1, 0, 'no sheet and no plan', '- | -')
     refused(1, 0, 'no sheet, and plan A', on('-', *A))
-    refused(1, 43, 'S without its last byte, and plan A', on(sheet(*S, cut=44), *A))
+    refused(1, 43, 'S without its last byte, and plan A', on(sheet(*S, cut=44), *A), told=(2, 2))
     refused(2, 0, 'both versions are 2', '02 | 02')
     refused(3, 1, 'S under a length one less, and no plan', '%s | -' % sheet(*S, length=44))
     refused(4, 3, '0 zones, and a plan of 0 zones', on(sheet('00', '00'), '00'))
-    refused(10, 15, 'zone 1 of 1, and a plan that lists it', on(one_zone(cart(route=[step(1)])), '01', '01 00'))
-    refused(12, 18, 'travel time 1 on the last step, and a plan that ends in its length', '%s | 01 00' % one_zone(cart(route=[step(0, 0, 1)])))
+    refused(5, 6, 'cross gap 60,001, and the plan for it', on(sheet(zones(1, '0000 EA61'), '00'), '01', '00'))
+    refused(6, 8, '17 carts, and a plan that lists 16', on(one_zone(*[cart(0)] * 17), '01', passing(SIXTEEN)))
+    refused(7, 174, 'lane 16 of cart 15, and the plan for it', on(one_zone(*[cart(n) for n in range(15)], cart(16)), '01', passing(SIXTEEN)), told=(16, 0))
+    refused(8, 21, 'arrival 3,600,001 of cart 1, and no plan', '%s | -' % one_zone(cart(), cart(1, 3600001), cart(2)), told=(2, 0))
+    refused(9, 14, '0 steps, and a plan with an empty list', on(one_zone(cart(route=[])), '01', '00'), told=(1, 0))
+    refused(10, 15, 'zone 1 of 1, and a plan that lists it', on(one_zone(cart(route=[step(1)])), '01', '01 00'), told=(1, 1))
+    twice, last_step = sheet(zones(2), '01', cart(route=[step(0), step(0)])), one_zone(cart(route=[step(0, 0, 1)]))
+    refused(11, 24, 'a zone twice, and a plan that lists the cart twice', on(twice, '02', '02 00 00', '00'), told=(1, 2))
+    refused(12, 18, 'travel time 1 on the last step, and a plan that ends in its length', '%s | 01 00' % last_step, told=(1, 1))
     refused(13, 45, 'a byte after S, and a byte after A', on(sheet(*S, '00'), *A, '00'))
-    refused(14, 21, 'cart 1 is early, and the lane is turned round in the list', on(one_zone(cart(0, 1), cart(0, 0)), '01', '02 01 00'))
+    refused(14, 21, 'cart 1 is early, and the lane is turned round in the list', on(one_zone(cart(0, 1), cart(0, 0)), '01', '02 01 00'), told=(2, 0))
 
 
 def cuts():

@@ -173,7 +173,7 @@ RULES = {'': Crossing.by_removal, 'first': Crossing.by_arrival, 'better': Crossi
 
 def printed(sheet, word=''):
     """What our planner program writes for a sheet with this word: the plan on standard output, or the refusal on standard error."""
-    number, place, gaps, carts = sheets.read(sheet)
-    if number:
-        return b'', b'refused %d at %d\n' % (number, place)
+    refusal, gaps, carts = sheets.read(sheet)
+    if refusal:
+        return b'', refusal.line().encode() + b'\n'
     return plans.written(RULES[word](Crossing(gaps, carts))), b''

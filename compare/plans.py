@@ -14,7 +14,7 @@ def read_list(fields, visitors):
     for _ in range(count):
         cart = fields.take(1)
         if cart not in visitors or cart in passing:
-            raise Refused(19, fields.place)
+            raise fields.refused(19)
         passing.append(cart)
     return passing
 
@@ -48,12 +48,11 @@ def read_all(sheet, plan):
 
 
 def read(sheet, plan):
-    """The number, the place, and the values: the carts and the list of each zone, both empty on refusal."""
+    """The refusal, or None, and the values: the carts and the list of each zone, both empty on refusal."""
     try:
-        carts, lists = read_all(sheet, plan)
+        return None, *read_all(sheet, plan)
     except Refused as refusal:
-        return *refusal.args, [], []
-    return 0, 0, carts, lists
+        return refusal, [], []
 
 
 def written(lists):
@@ -62,24 +61,24 @@ def written(lists):
 
 
 def list_of(reading, zone):
-    """The list operation on a plan with what reading it gave: the number, the place, and the zone's list."""
-    number, place, _, lists = reading
-    if number:
-        return number, place, []
+    """The list operation on a plan with what reading it gave: the refusal, or None, and the zone's list."""
+    refusal, _, lists = reading
+    if refusal:
+        return refusal, []
     if len(lists) <= zone:
-        return 27, 0, []
-    return 0, 0, lists[zone]
+        return Refused(27, 0), []
+    return None, lists[zone]
 
 
 def write_again(reading, room):
-    """Writing a plan again, with what reading it gave: the number, the place, the length, and what the room then holds."""
-    number, place, _, lists = reading
-    if number:
-        return number, place, 0, room
+    """Writing a plan again, with what reading it gave: the refusal, or None, the length, and what the room then holds."""
+    refusal, _, lists = reading
+    if refusal:
+        return refusal, 0, room
     plan = written(lists)
     if len(room) < len(plan):
-        return 28, 0, 0, room
-    return 0, 0, len(plan), plan + room[len(plan):]
+        return Refused(28, 0), 0, room
+    return None, len(plan), plan + room[len(plan):]
 
 
 def numbers(values):
@@ -87,9 +86,9 @@ def numbers(values):
 
 
 def shown_reading(reading):
-    number, place, carts, lists = reading
-    if number:
-        return ['refused %d at %d' % (number, place)]
+    refusal, carts, lists = reading
+    if refusal:
+        return [refusal.line()]
     lines = ['ok zones %d' % len(lists)]
     for number, cart in enumerate(carts):
         for step, (zone, _, _) in enumerate(cart['route']):
@@ -99,22 +98,22 @@ def shown_reading(reading):
 
 
 def shown_list(reading, zone):
-    number, place, passing = list_of(reading, zone)
-    if number:
-        return 'zone %d refused %d at %d length %d' % (zone, number, place, len(passing))
+    refusal, passing = list_of(reading, zone)
+    if refusal:
+        return 'zone %d refused %d at %d length %d' % (zone, refusal.number, refusal.place, len(passing))
     return 'zone %d list%s' % (zone, numbers(passing))
 
 
 def shown_room(reading, size):
-    number, place, length, room = write_again(reading, b'\xEE' * size)
-    said = 'refused %d at %d length' % (number, place) if number else 'written'
+    refusal, length, room = write_again(reading, b'\xEE' * size)
+    said = 'refused %d at %d length' % (refusal.number, refusal.place) if refusal else 'written'
     return 'room %d %s %d holds%s' % (size, said, length, ''.join(' %02x' % byte for byte in room))
 
 
 def shown(sheet, plan):
     """What our program prints of a plan for a sheet, as a list of lines: zone 0 alone is listed of a plan that is refused."""
     reading = read(sheet, plan)
-    lists = reading[3]
+    _, _, lists = reading
     size = min(len(plan), 300)
     sizes = [size - 1, size, size + 2] if size else [size, size + 2]
     return (shown_reading(reading)

@@ -87,7 +87,7 @@ def compare(wanted, text, what, files=()):
 
 
 def given(case, verdict):
-    """What a case gives when it is read, or judged: done, or the number and the place."""
+    """What a case gives when it is read, or judged: done, or the number and the place, and the cart and step if they are told."""
     first = (judging.shown(*case) if verdict else shown(case))[0]
     return 'done' if first.startswith('ok ') else first.removeprefix('refused ')
 
@@ -143,13 +143,29 @@ def count_numbers(kind, numbers, blocks):
             sys.exit('number %d was never seen' % number)
 
 
+def check_told(blocks):
+    """Ends the program where the random cases told some cart or some step never."""
+    told = [re.findall(r'^refused \d+ at \d+ cart (\d+) step (\d+)$', block, re.M) for block in blocks]
+    for place, (what, numbers) in enumerate([('cart', range(1, 17)), ('step', range(9))]):
+        missing = set(map(str, numbers)) - {pair[place] for pairs in told for pair in pairs}
+        if missing:
+            sys.exit('%s %s was never told' % (what, ', '.join(sorted(missing))))
+    print('told a cart: %5d' % sum(map(bool, told)))
+
+
+def refused_sheets():
+    """The stored sheets that are refused."""
+    return [case[0] for _, case in cases_of(read_text(DATA[0])) if sheets.read(case[0])[0]]
+
+
 def check_inputs(program):
-    """The judge program on standard input: cut after every byte, with a plan that is locked, and with more than it reads."""
+    """The judge program on standard input: cut after every byte, with a plan that is locked, more than it reads, and every stored sheet that is refused."""
     sheet = read_bytes('examples/S.sheet')
     accepted, locked = read_bytes('examples/A.plan'), read_bytes('examples/B.plan')
     inputs = [(sheet + accepted)[:size] for size in range(len(sheet + accepted) + 1)]
     inputs += [sheet + locked, sheet + accepted + b'\0', b'\1\0\0' + accepted, b'\1\0\2' + sheet, bytes(2048), bytes(5000)]
     inputs += [sheet[:1] + size.to_bytes(2, 'big') + sheet[3:] + accepted + bytes(2500) for size in [46, 2047, 2048, 2049, 65535]]
+    inputs += [refused + accepted for refused in refused_sheets()]
     for given in inputs:
         ran = subprocess.run([program], input=given, stdout=subprocess.PIPE, check=True)
         compare(judging.printed(given), ran.stdout.decode(), '%s on %s' % (program, given[:100].hex()))
@@ -169,7 +185,7 @@ def check_planner(program):
     rng = random.Random(3)
     small = [sheet for sheet in (sheets.a_sheet(rng) for _ in range(400)) if sum(len(cart[2]) for cart in sheet[1]) <= 20]
     cases = [sheets.written(sheets.fields_of(*sheet)) for sheet in small]
-    cases += [case[0] for _, case in cases_of(read_text(DATA[0])) if sheets.read(case[0])[0]]
+    cases += refused_sheets()
     for sheet, word in itertools.product(cases, planning.RULES):
         wanted, got = planning.printed(sheet, word), run_planner(program, sheet, *word.split())
         compare(repr(wanted), repr(got), '%s %s on %s' % (program, word, sheet[:100].hex()))
@@ -181,7 +197,9 @@ def check_random(program):
     blocks = [blocks_of(enumerate(cases, 1)) for cases in files]
     compare(output_of(blocks), run(program, files), program, files)
     count_numbers('sheets', range(15), blocks[0])
+    check_told(blocks[0])
     count_numbers('plans', [*range(23), 27, 28], blocks[1])
+    check_told(blocks[1])
 
 
 def main(words):

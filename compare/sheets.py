@@ -1,4 +1,4 @@
-"""Reads crossing sheets as document 01 says, in the plainest form, and makes random ones.
+"""Reads crossing sheets as document 01 and #104 say, in the plainest form, and makes random ones.
 
 `shown` is what our programs print of a sheet; programs.py compares them with it.
 """
@@ -6,44 +6,58 @@ import random
 
 
 class Refused(Exception):
-    """A number of document 01's table, and the place."""
+    """A number of document 01's table, the place, and #104's cart and step: 0 outside a cart's part and outside a step."""
+
+    def __init__(self, number, place, cart=0, step=0):
+        super().__init__(number, place, cart, step)
+        self.number, self.place, self.cart, self.step = number, place, cart, step
+
+    def line(self):
+        """The first line that our programs print of it."""
+        told = ' cart %d step %d' % (self.cart, self.step) if self.cart else ''
+        return 'refused %d at %d' % (self.number, self.place) + told
 
 
 class Fields:
-    """The fields of a sheet or a plan in byte order. `place` is the first byte of the field taken last."""
+    """The fields of a sheet or a plan in byte order. `place` is the first byte of the field taken last, `cart` and `step` tell its part."""
 
     def __init__(self, lent, number_of_cut):
-        self.lent, self.number_of_cut, self.place, self.next = lent, number_of_cut, 0, 0
+        self.lent, self.number_of_cut, self.place, self.next, self.cart, self.step = lent, number_of_cut, 0, 0, 0, 0
+
+    def refused(self, number):
+        return Refused(number, self.place, self.cart, self.step)
 
     def take(self, width):
         self.place, self.next = self.next, self.next + width
         if len(self.lent) < self.next:
-            raise Refused(self.number_of_cut, self.place)
+            raise self.refused(self.number_of_cut)
         return int.from_bytes(self.lent[self.place:self.next], 'big')
 
     def take_within(self, width, low, high, number):
         value = self.take(width)
         if not low <= value <= high:
-            raise Refused(number, self.place)
+            raise self.refused(number)
         return value
 
 
 def read_step(fields, zone_count, earlier, is_last):
     zone = fields.take_within(1, 0, zone_count - 1, 10)
     if zone in [step[0] for step in earlier]:
-        raise Refused(11, fields.place)
+        raise fields.refused(11)
     passing = fields.take_within(2, 0, 60000, 12)
     travel = fields.take_within(2, 0, 0 if is_last else 60000, 12)
     return zone, passing, travel
 
 
-def read_cart(fields, zone_count):
+def read_cart(fields, zone_count, number):
+    fields.cart, fields.step = number + 1, 0
     lane = fields.take_within(1, 0, 15, 7)
     arrival = fields.take_within(4, 0, 3600000, 8)
     place = fields.place
     step_count = fields.take_within(1, 1, 8, 9)
     route = []
     for step in range(step_count):
+        fields.step = step + 1
         route.append(read_step(fields, zone_count, route, step == step_count - 1))
     return {'lane': lane, 'arrival': arrival, 'place': place, 'route': route}
 
@@ -58,7 +72,7 @@ def check_arrivals(carts):
     for number, cart in enumerate(carts):
         for lower in carts[:number]:
             if lower['lane'] == cart['lane'] and cart['arrival'] < lower['arrival']:
-                raise Refused(14, cart['place'])
+                raise Refused(14, cart['place'], number + 1)
 
 
 def read_all(sheet):
@@ -68,7 +82,7 @@ def read_all(sheet):
     zone_count = fields.take_within(1, 1, 24, 4)
     gaps = [read_gaps(fields) for _ in range(zone_count)]
     cart_count = fields.take_within(1, 0, 16, 6)
-    carts = [read_cart(fields, zone_count) for _ in range(cart_count)]
+    carts = [read_cart(fields, zone_count, number) for number in range(cart_count)]
     if fields.next < len(sheet):
         raise Refused(13, fields.next)
     check_arrivals(carts)
@@ -76,19 +90,18 @@ def read_all(sheet):
 
 
 def read(sheet):
-    """The number, the place, and the values: the gaps of each zone and the carts, both empty on refusal."""
+    """The refusal, or None, and the values: the gaps of each zone and the carts, both empty on refusal."""
     try:
-        gaps, carts = read_all(sheet)
+        return None, *read_all(sheet)
     except Refused as refusal:
-        return *refusal.args, [], []
-    return 0, 0, gaps, carts
+        return refusal, [], []
 
 
 def shown(sheet):
     """What our programs print of a sheet, as a list of lines."""
-    number, place, gaps, carts = read(sheet)
-    if number:
-        return ['refused %d at %d' % (number, place)]
+    refusal, gaps, carts = read(sheet)
+    if refusal:
+        return [refusal.line()]
     lines = ['ok zones %d carts %d' % (len(gaps), len(carts))]
     for zone, gap in enumerate(gaps):
         lines.append('zone %d follow %d cross %d' % (zone, *gap))

@@ -19,7 +19,11 @@ static int done(oblakosh_outcome outcome)
     if (outcome.number == OBLAKOSH_DONE) {
         return 1;
     }
-    printf("refused %u at %zu\n", outcome.number, outcome.place);
+    printf("refused %u at %zu", outcome.number, outcome.place);
+    if (outcome.cart != 0) {
+        printf(" cart %u step %u", outcome.cart, outcome.step);
+    }
+    printf("\n");
     return 0;
 }
 

@@ -33,12 +33,22 @@ static void show_ring(const oblakosh_ring *ring)
     }
 }
 
+/* With the cart and the step, where the refusal stands inside a cart's part of the sheet. */
+static void show_refusal(const oblakosh_outcome *outcome)
+{
+    printf("refused %u at %zu", outcome->number, outcome->place);
+    if (outcome->cart != 0) {
+        printf(" cart %u step %u", outcome->cart, outcome->step);
+    }
+    printf("\n");
+}
+
 static void judge(const uint8_t *sheet, size_t sheet_length, const uint8_t *plan, size_t plan_length)
 {
     uint32_t words[OBLAKOSH_WORDS];
     oblakosh_judged judged = oblakosh_judge(sheet, sheet_length, plan, plan_length, words, OBLAKOSH_WORDS);
     if (judged.outcome.number != OBLAKOSH_DONE) {
-        printf("refused %u at %zu\n", judged.outcome.number, judged.outcome.place);
+        show_refusal(&judged.outcome);
         show_ring(&judged.ring);
         return;
     }

@@ -76,8 +76,12 @@ enum oblakosh_number {
     OBLAKOSH_ROOM = 28                /* lent room too short; place: 0 */
 };
 
+/* A refusal from 1 to 14 that stands inside a cart's part of the sheet tells which cart, a cut there too. For 13, for 14's
+   step and for everything else cart and step are 0. */
 typedef struct {
     uint32_t number;  /* enum oblakosh_number: 0 for done */
+    uint8_t cart;     /* the cart's number plus one; 0: in no cart's part */
+    uint8_t step;     /* the step's number plus one; 0: in no step */
     size_t place;
 } oblakosh_outcome;
 
@@ -229,6 +233,8 @@ oblakosh_asked oblakosh_move_cart(const uint8_t *sheet, size_t sheet_length, con
     OBLAKOSH_HOLDS(offsetof(type, field) == (place) && sizeof(((type *)0)->field) == (bytes), #type "." #field)
 OBLAKOSH_STRUCT(oblakosh_outcome, 16);
 OBLAKOSH_FIELD(oblakosh_outcome, number, 0, 4);
+OBLAKOSH_FIELD(oblakosh_outcome, cart, 4, 1);
+OBLAKOSH_FIELD(oblakosh_outcome, step, 5, 1);
 OBLAKOSH_FIELD(oblakosh_outcome, place, 8, 8);
 OBLAKOSH_STRUCT(oblakosh_sheet, 848);
 OBLAKOSH_FIELD(oblakosh_sheet, zones, 0, 8);

@@ -45,9 +45,12 @@ struct Lanes {
   CartSet same[16], next[16], fronts;
 };
 
-// A number of document 01's table and its place.
+// A number of document 01's table and its place; of what stands in a cart's part of the sheet, the cart and its step, each plus one.
 struct Outcome {
+  Outcome(unsigned number = 0, size_t place = 0) : number(number), place(place) {}
+
   unsigned number;
+  std::uint8_t cart = 0, step = 0;
   size_t place;
 };
 
@@ -158,6 +161,19 @@ template <bool whole>
   return true;
 }
 
+// In whose part of the carts, which begin here, a refusal stands: worked out from its place once reading is over, so that it costs nothing before.
+[[gnu::cold, gnu::noinline]] inline Outcome in_cart(Outcome refused, const Sheet& sheet, size_t begin) {
+  for (unsigned c = 0;; ++c) {
+    const size_t steps = begin + 6, end = steps + 5 * sheet.steps[c];
+    if (refused.place < end) {
+      refused.cart = static_cast<std::uint8_t>(c + 1);
+      refused.step = static_cast<std::uint8_t>(refused.place < steps ? 0 : (refused.place - steps) / 5 + 1);
+      return refused;
+    }
+    begin = end;
+  }
+}
+
 inline Outcome read_sheet(Lent s, Sheet& sheet) {
   std::uint32_t value;
   size_t arrivals[16];
@@ -171,9 +187,10 @@ inline Outcome read_sheet(Lent s, Sheet& sheet) {
   if (!(whole ? read_gaps<true>(fields, sheet) : read_gaps<false>(fields, sheet))) return fields.outcome;
   if (!fields.take<1>(0, 16, 6, value)) return fields.outcome;
   sheet.carts = value;
-  if (!read_carts(fields, sheet, arrivals)) return fields.outcome;
+  const size_t begin = fields.at();
+  if (!read_carts(fields, sheet, arrivals)) return in_cart(fields.outcome, sheet, begin);
   if (fields.left() != 0) return {13, fields.at()};
-  check_arrivals(fields, sheet, arrivals);
+  if (!check_arrivals(fields, sheet, arrivals)) return in_cart(fields.outcome, sheet, begin);
   return fields.outcome;
 }
 

@@ -16,6 +16,7 @@ using independent::Bytes;
 using independent::Cart;
 using independent::Lists;
 using independent::Orders;
+using independent::Outcome;
 using independent::Positions;
 using independent::Record;
 using independent::Sheet;
@@ -65,13 +66,15 @@ struct FieldPlace {
     Kind kind;
     size_t place;
     size_t width;
+    uint32_t cart, step;                 // the part it stands in, as #104 numbers it
 };
 
 // The sheet's bytes (values are taken as they are, also wrong ones), and where each field stands.
 inline Bytes sheet_to_bytes(const Sheet& sheet, std::vector<FieldPlace>* fields = nullptr) {
     Bytes bytes;
+    uint32_t cart_told = 0, step_told = 0;
     auto add = [&](Kind kind, size_t width, uint32_t value) {
-        if (fields != nullptr) fields->push_back(FieldPlace{kind, bytes.size(), width});
+        if (fields != nullptr) fields->push_back(FieldPlace{kind, bytes.size(), width, cart_told, step_told});
         append_number(bytes, width, value);
     };
     add(Kind::version, 1, 1);
@@ -83,10 +86,13 @@ inline Bytes sheet_to_bytes(const Sheet& sheet, std::vector<FieldPlace>* fields 
     }
     add(Kind::cart_count, 1, static_cast<uint32_t>(sheet.carts.size()));
     for (const Cart& cart : sheet.carts) {
+        cart_told++;
+        step_told = 0;
         add(Kind::lane, 1, cart.lane);
         add(Kind::arrival, 4, cart.arrival);
         add(Kind::step_count, 1, static_cast<uint32_t>(cart.steps.size()));
         for (size_t s = 0; s < cart.steps.size(); s++) {
+            step_told++;
             add(Kind::zone, 1, cart.steps[s].zone);
             add(Kind::passing, 2, cart.steps[s].passing);
             add(s + 1 == cart.steps.size() ? Kind::last_travel : Kind::travel, 2, cart.steps[s].travel);
@@ -533,6 +539,92 @@ inline Bytes noise(Random& random, uint32_t longest) {
     if (size > 0 && !random.one_in(4)) bytes[0] = 1;
     if (!random.one_in(4)) correct_length(bytes);
     return bytes;
+}
+
+// ---------------------------------------------------------------------------------------------
+// Every field of a sheet spoilt, for #104
+// ---------------------------------------------------------------------------------------------
+
+// A sheet with something wrong, and what reading it must give.
+struct SpoiltSheet {
+    Bytes bytes;
+    Outcome wanted;
+};
+
+// The values just past the field's range and farthest from it, each with its number in document 01's table.
+inline std::vector<std::pair<uint32_t, uint32_t>> wrong_values(const Sheet& sheet, size_t length, const FieldPlace& field) {
+    const uint32_t n = static_cast<uint32_t>(sheet.zones.size());
+    const uint32_t size = static_cast<uint32_t>(length);
+    std::vector<std::pair<uint32_t, uint32_t>> wrong;
+    switch (field.kind) {
+        case Kind::version: wrong = {{2, 0}, {2, 2}, {2, 255}}; break;
+        case Kind::length: wrong = {{3, size - 1}, {3, size + 1}, {3, 65535}}; break;
+        case Kind::zone_count: wrong = {{4, 0}, {4, 25}, {4, 255}}; break;
+        case Kind::gap: wrong = {{5, 60001}, {5, 65535}}; break;
+        case Kind::cart_count: wrong = {{6, 17}, {6, 255}}; break;
+        case Kind::lane: wrong = {{7, 16}, {7, 255}}; break;
+        case Kind::arrival: wrong = {{8, 3600001}, {8, 4294967295u}}; break;
+        case Kind::step_count: wrong = {{9, 0}, {9, 9}, {9, 255}}; break;
+        case Kind::zone:
+            wrong = {{10, n}, {10, 255}};
+            for (uint32_t s = 0; s + 1 < field.step; s++) wrong.push_back({11, sheet.carts[field.cart - 1].steps[s].zone});
+            break;
+        case Kind::passing:
+        case Kind::travel: wrong = {{12, 60001}, {12, 65535}}; break;
+        case Kind::last_travel: wrong = {{12, 1}, {12, 60000}, {12, 60001}}; break;
+    }
+    return wrong;
+}
+
+// A valid sheet with each field cut at each of its bytes, and with each wrong value; then with a byte after it.
+inline std::vector<SpoiltSheet> every_field_spoilt(const Sheet& sheet) {
+    std::vector<FieldPlace> fields;
+    const Bytes bytes = sheet_to_bytes(sheet, &fields);
+    std::vector<SpoiltSheet> spoilt;
+    for (const FieldPlace& field : fields) {
+        const uint32_t place = static_cast<uint32_t>(field.place);
+        for (size_t there = 0; there < field.width; there++) {
+            Bytes cut(bytes.begin(), bytes.begin() + static_cast<long>(field.place + there));
+            correct_length(cut);
+            spoilt.push_back(SpoiltSheet{cut, Outcome{1, place, field.cart, field.step}});
+        }
+        for (const auto& wrong : wrong_values(sheet, bytes.size(), field)) {
+            Bytes changed = bytes;
+            put_number(changed, field.place, field.width, wrong.second);
+            spoilt.push_back(SpoiltSheet{changed, Outcome{wrong.first, place, field.cart, field.step}});
+        }
+    }
+    Bytes longer = bytes;
+    longer.push_back(1);
+    correct_length(longer);
+    spoilt.push_back(SpoiltSheet{longer, Outcome{13, static_cast<uint32_t>(bytes.size()), 0, 0}});
+    return spoilt;
+}
+
+// A sheet's carts put on one lane, and each but the first made to arrive before it, alone and with the cart behind it.
+inline std::vector<SpoiltSheet> every_cart_early(Sheet sheet) {
+    for (Cart& cart : sheet.carts) cart = Cart{3, 1000, cart.steps};
+    std::vector<SpoiltSheet> spoilt;
+    for (uint32_t c = 1; c < sheet.carts.size(); c++) {
+        for (size_t early = 1; early <= 2 && c + early <= sheet.carts.size(); early++) {
+            Sheet changed = sheet;
+            for (size_t i = 0; i < early; i++) changed.carts[c + i].arrival = 999 - static_cast<uint32_t>(i);
+            std::vector<FieldPlace> fields;
+            const Bytes bytes = sheet_to_bytes(changed, &fields);
+            for (const FieldPlace& field : fields) {
+                if (field.kind != Kind::arrival || field.cart != c + 1) continue;
+                spoilt.push_back(SpoiltSheet{bytes, Outcome{14, static_cast<uint32_t>(field.place), c + 1, 0}});
+            }
+        }
+    }
+    return spoilt;
+}
+
+// Both of a sheet.
+inline std::vector<SpoiltSheet> spoilt_sheets(const Sheet& sheet) {
+    std::vector<SpoiltSheet> spoilt = every_field_spoilt(sheet);
+    for (const SpoiltSheet& early : every_cart_early(sheet)) spoilt.push_back(early);
+    return spoilt;
 }
 
 // ---------------------------------------------------------------------------------------------

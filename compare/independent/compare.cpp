@@ -29,10 +29,10 @@ using library::Tally;
 // Work, and what was seen in it
 // ---------------------------------------------------------------------------------------------
 
-enum Kind { stored, one_byte, tiny, small, damaged_sheets, damaged_plans, dense, large, kinds };
+enum Kind { stored, one_byte, tiny, small, damaged_sheets, damaged_plans, dense, large, every_field, kinds };
 static const char* const kind_names[kinds] = {
     "examples and stored sheets", "one byte changed, or cut", "tiny crossings", "small crossings",
-    "damaged sheets", "damaged plans", "dense crossings", "large crossings"};
+    "damaged sheets", "damaged plans", "dense crossings", "large crossings", "every field cut or wrong"};
 
 enum Program { judge_program, planner_program, first_program, better_program, program_count };
 
@@ -41,7 +41,7 @@ struct Seen {
     Tally tally;
     uint64_t cases[kinds] = {}, readable[kinds] = {}, sheet_refused[kinds] = {}, plan_refused[kinds] = {};
     uint64_t tiny_sheets = 0;
-    uint64_t program[program_count][29] = {};
+    library::Answers program[program_count];
     independent::DoubleCheckCounts double_checks;
 
     void add(const Seen& other) {
@@ -53,9 +53,7 @@ struct Seen {
             plan_refused[kind] += other.plan_refused[kind];
         }
         tiny_sheets += other.tiny_sheets;
-        for (int p = 0; p < program_count; p++) {
-            for (int number = 0; number <= 28; number++) program[p][number] += other.program[p][number];
-        }
+        for (int p = 0; p < program_count; p++) program[p].add(other.program[p]);
         double_checks.add(other.double_checks);
     }
 };
@@ -203,6 +201,36 @@ static void compare_one_byte(Random& random, Seen& seen) {
     for (const Bytes& plan : all_changes(plan_A)) compare(seen, one_byte, case_of(random, "A changed", sheet_S, plan));
 }
 
+// Three carts of three steps on three zones, each on a lane of its own.
+static Sheet sheet_of_three() {
+    Sheet sheet;
+    sheet.zones = {{200, 300}, {210, 310}, {220, 320}};
+    for (uint32_t c = 0; c < 3; c++) sheet.carts.push_back({c, 500 * c, {{c, 1000, 100}, {(c + 1) % 3, 900, 50}, {(c + 2) % 3, 800, 0}}});
+    return sheet;
+}
+
+// Every field of the longest sheet and of a small one, each through every operation with a plan that would have fitted.
+static void compare_every_field(Random& random, Seen& seen) {
+    for (const Sheet& sheet : {sheet_of_three(), cases::longest_sheet()}) {
+        const Bytes plan = cases::plan_to_bytes(cases::one_order_lists(random, sheet));
+        for (const cases::SpoiltSheet& spoilt : cases::spoilt_sheets(sheet)) {
+            compare(seen, every_field, case_of(random, "a field cut or wrong", spoilt.bytes, plan));
+        }
+    }
+}
+
+// For each cart, outside its steps and in each of them, a sheet that is cut there and one that has a wrong value there.
+static std::vector<Bytes> sheets_for_every_part() {
+    std::vector<Bytes> sheets;
+    bool told[17][9][2] = {};
+    for (const cases::SpoiltSheet& spoilt : cases::spoilt_sheets(cases::longest_sheet())) {
+        bool& already = told[spoilt.wanted.cart][spoilt.wanted.step][spoilt.wanted.number == 1];
+        if (!already) sheets.push_back(spoilt.bytes);
+        already = true;
+    }
+    return sheets;
+}
+
 // All routes and all plans; with two carts all records too.
 static void compare_tiny(Random& random, Seen& seen, uint32_t m, uint32_t n, const std::vector<uint32_t>& lanes) {
     cases::for_every_tiny_crossing(random, m, n, lanes, [&](const Sheet& sheet, const Lists& lists, bool first) {
@@ -229,31 +257,37 @@ static void compare_tiny(Random& random, Seen& seen, uint32_t m, uint32_t n, con
 
 static constexpr uint64_t runs_per_number = 12;
 
-// The judge program on so many inputs of each number, on longer ones than it reads, and on none.
+// The judge program on so many inputs of each number, on longer ones than it reads, on every part of a sheet, and on none.
 static void compare_judge_program(Random& random, Seen& seen) {
     Bytes with_plan = sheet_S;
     with_plan.insert(with_plan.end(), plan_A.begin(), plan_A.end());
     Bytes longer = with_plan;
     longer.resize(5000, 1);
-    for (const Bytes& input : {Bytes(), with_plan, longer}) seen.program[judge_program][programs::compare_judge(input)]++;
+    std::vector<Bytes> inputs = sheets_for_every_part();
+    inputs.insert(inputs.end(), {Bytes(), with_plan, longer});
+    for (const Bytes& input : inputs) seen.program[judge_program].count(programs::compare_judge(input));
+    uint64_t runs[29] = {};
     for (uint32_t tried = 0; tried < 40000; tried++) {
         const Case c = cases::random_small_case(random);
-        const uint32_t number = programs::number_in(independent::judge_program(c.standard_input));
-        if (seen.program[judge_program][number] >= runs_per_number) continue;
-        seen.program[judge_program][programs::compare_judge(c.standard_input)]++;
+        const uint32_t number = programs::outcome_in(independent::judge_program(c.standard_input)).number;
+        if (runs[number] >= runs_per_number) continue;
+        runs[number]++;
+        seen.program[judge_program].count(programs::compare_judge(c.standard_input));
     }
 }
 
-// The planner program with each word on so many sheets of each number, on the stored sheets, on a very long one, and on none.
+// The planner program with each word on so many sheets of each number, on the stored sheets, on every part of a sheet, on a very
+// long one, and on none.
 static void compare_planner_program(Random& random, Seen& seen) {
     const std::pair<Program, Planner> words[3] = {
         {planner_program, Planner::removal}, {first_program, Planner::first_come}, {better_program, Planner::better}};
     Bytes longer = sheet_S;
     longer.resize(sheet_S.size() + 65536, 0);
-    std::vector<Bytes> sheets = {Bytes(), sheet_S, longer};
+    std::vector<Bytes> sheets = sheets_for_every_part();
+    sheets.insert(sheets.end(), {Bytes(), sheet_S, longer});
     for (const std::string& text : column_of("compare/independent/first-come.txt", 0)) sheets.push_back(cases::from_hex(text));
     for (const Bytes& sheet : sheets) {
-        for (const auto& word : words) seen.program[word.first][programs::compare_planner(sheet, word.second)]++;
+        for (const auto& word : words) seen.program[word.first].count(programs::compare_planner(sheet, word.second));
     }
     uint64_t runs[29] = {};
     for (uint32_t tried = 0; tried < 20000; tried++) {
@@ -261,7 +295,7 @@ static void compare_planner_program(Random& random, Seen& seen) {
         const uint32_t number = independent::read_sheet(c.sheet).number;
         if (runs[number] >= runs_per_number) continue;
         runs[number]++;
-        for (const auto& word : words) seen.program[word.first][programs::compare_planner(c.sheet, word.second)]++;
+        for (const auto& word : words) seen.program[word.first].count(programs::compare_planner(c.sheet, word.second));
     }
 }
 
@@ -289,6 +323,7 @@ static std::vector<Job> all_jobs() {
             }
         }
     }
+    jobs.push_back(Job{kind_names[every_field], 104, compare_every_field});
     add_random_jobs(jobs, large, 100, 10, cases::random_large_case);
     add_random_jobs(jobs, dense, 100, 100, cases::random_dense_case);
     add_random_jobs(jobs, small, 340, 1000, cases::random_small_case);
@@ -337,11 +372,28 @@ static void print_numbers(const Seen& seen) {
     std::string wrong;
     for (uint32_t number = 0; number <= 28; number++) {
         std::printf("%6u", number);
-        for (int o = 0; o < library::operations; o++) wrong += print_count(columns[o], number, seen.tally.seen[o][number], 9);
-        for (int p = 0; p < program_count; p++) wrong += print_count(program_columns[p], number, seen.program[p][number], 15);
+        for (int o = 0; o < library::operations; o++) wrong += print_count(columns[o], number, seen.tally.answers[o].seen[number], 9);
+        for (int p = 0; p < program_count; p++) wrong += print_count(program_columns[p], number, seen.program[p].seen[number], 15);
         std::printf("\n");
     }
     if (!wrong.empty()) fail("numbers:" + wrong);
+}
+
+// Prints how often the cart and step were told that were told least; each operation has to tell every cart, outside its steps and
+// in each of the eight.
+static void print_least_told(const Seen& seen) {
+    std::string wrong;
+    const auto print_least = [&](const Column& column, const library::Answers& answers, int width) {
+        uint64_t least = answers.told[1][0];
+        for (int cart = 1; cart <= 16; cart++) least = std::min(least, *std::min_element(answers.told[cart], answers.told[cart] + 9));
+        std::printf(" %*llu", width, shown(least));
+        if (least == 0) wrong += std::string("\n") + column.name + " was never seen to tell some cart and step";
+    };
+    std::printf("%6s", "told");
+    for (int o = 0; o < library::operations; o++) print_least(columns[o], seen.tally.answers[o], 9);
+    for (int p = 0; p < program_count; p++) print_least(program_columns[p], seen.program[p], 15);
+    std::printf("   each cart and step, so often or more\n");
+    if (!wrong.empty()) fail("cart and step:" + wrong);
 }
 
 // Prints how often each situation was seen; each has to be.
@@ -372,8 +424,8 @@ static void print_kinds(const Seen& seen) {
     std::printf("\nsheets planned with a group cut: %llu\n", shown(seen.tally.cut_sheets));
     const independent::DoubleCheckCounts& d = seen.double_checks;
     std::printf("the independent program searched all runs of %llu crossings, %llu states, and compared %llu verdicts, %llu entering times, "
-                "%llu spare times and %llu records two ways\n",
-                shown(d.searches), shown(d.states), shown(d.verdicts), shown(d.times), shown(d.spare), shown(d.records));
+                "%llu spare times, %llu records and the cart and step of %llu refusals two ways\n",
+                shown(d.searches), shown(d.states), shown(d.verdicts), shown(d.times), shown(d.spare), shown(d.records), shown(d.parts));
 }
 
 // ---------------------------------------------------------------------------------------------
@@ -423,6 +475,7 @@ int main() {
 
     print_kinds(seen);
     print_numbers(seen);
+    print_least_told(seen);
     print_situations("sheets planned three ways", cases::planners_situation_names, seen.tally.planners, cases::planners_situations);
     print_situations("the stop line", cases::line_situation_names, seen.tally.line, cases::line_situations);
     if (seen.readable[small] < 200000) fail("fewer than 200,000 small crossings with a readable plan");

@@ -1,8 +1,8 @@
-// Every operation of document 01 with document 02's #101 and #102 on any bytes, written from them alone and plain on purpose.
+// Every operation of document 01 with document 02's #101, #102 and #104 on any bytes, written from them alone and plain on purpose.
 //
 // Lines in quotation marks are sentences of document 01, unless they are marked "001", which is the
-// paper it refers to (Lin and others 2019), or #101 or #102, which are document 02's. The double checks (search over all runs, times two ways,
-// resource conflict graph) are inside the operations; one that fails throws DoubleCheckFailed.
+// paper it refers to (Lin and others 2019), or #101, #102 or #104, which are document 02's. The double checks (search over all runs, times two ways,
+// resource conflict graph, cart and step of a refusal two ways) are inside the operations; one that fails throws DoubleCheckFailed.
 
 #ifndef INDEPENDENT_HPP
 #define INDEPENDENT_HPP
@@ -35,6 +35,7 @@ struct DoubleCheckCounts {
     uint64_t spare = 0;                // spare times two ways
     uint64_t records = 0;              // records tested for being reachable
     uint64_t records_searched = 0;     // of these, compared with the search
+    uint64_t parts = 0;                // cart and step of a refusal two ways
 
     void add(const DoubleCheckCounts& other) {
         searches += other.searches;
@@ -45,6 +46,7 @@ struct DoubleCheckCounts {
         spare += other.spare;
         records += other.records;
         records_searched += other.records_searched;
+        parts += other.parts;
     }
 };
 inline thread_local DoubleCheckCounts double_check_counts;
@@ -125,27 +127,28 @@ inline int cart_next_on_lane(const Sheet& sheet, uint32_t cart) {
 // memory is unchanged."
 // ---------------------------------------------------------------------------------------------
 
-struct SheetAnswer {
+// What every answer begins with. #104: "Each refusal from 1 to 14 that stands inside a cart's part of
+// the sheet returns that cart's number plus one, and its step plus one when it is inside a step, else
+// 0."
+struct Outcome {
     uint32_t number = 0;
     uint32_t place = 0;
+    uint32_t cart = 0;
+    uint32_t step = 0;
+};
+struct SheetAnswer : Outcome {
     Sheet sheet;                       // empty on refusal
 };
-struct PlanAnswer {
-    uint32_t number = 0;
-    uint32_t place = 0;
+struct PlanAnswer : Outcome {
     Lists lists;                       // empty on refusal
     std::vector<uint32_t> list_places; // where in the plan each zone's first cart number stands
     Sheet sheet;                       // the sheet it was read for, empty on refusal
 };
-struct WriteAnswer {
-    uint32_t number = 0;
-    uint32_t place = 0;
+struct WriteAnswer : Outcome {
     uint32_t length = 0;               // bytes written
     Bytes room;                        // the whole room afterwards
 };
-struct ListAnswer {
-    uint32_t number = 0;
-    uint32_t place = 0;
+struct ListAnswer : Outcome {
     uint32_t position = 0;             // of the first cart number (after the count byte)
     uint32_t length = 0;
 };
@@ -153,17 +156,13 @@ struct RingCart {
     uint32_t cart = 0;
     uint32_t zone = 0;                 // the wanted zone
 };
-struct JudgeAnswer {
-    uint32_t number = 0;
-    uint32_t place = 0;
+struct JudgeAnswer : Outcome {
     std::vector<RingCart> ring;        // only with 22
     uint32_t finish = 0;
     uint32_t moves = 0;
     std::vector<uint32_t> words;       // all lent words afterwards
 };
-struct PlanningAnswer {
-    uint32_t number = 0;
-    uint32_t place = 0;
+struct PlanningAnswer : Outcome {
     uint32_t length = 0;
     uint32_t finish = 0;
     Bytes room;                        // the whole room afterwards
@@ -173,9 +172,7 @@ struct Record {
     std::array<uint8_t, 16> positions{};
     uint32_t made = 0;
 };
-struct MoveAnswer {
-    uint32_t number = 0;
-    uint32_t place = 0;
+struct MoveAnswer : Outcome {
     uint32_t ahead = 0;                // only with 26
     Record record;                     // afterwards
 };
@@ -192,6 +189,8 @@ struct FieldReader {
 
     uint32_t place = 0;                // "Field" is the field's first byte
     uint32_t value = 0;
+    uint32_t cart = 0;                 // #104: of the cart's part that the fields now taken stand in,
+    uint32_t step = 0;                 // and of the step in it
 
     explicit FieldReader(const Bytes& b) : bytes(b) {}
 
@@ -206,93 +205,105 @@ struct FieldReader {
     }
 };
 
-inline SheetAnswer refuse_sheet(uint32_t number, size_t place) {
+inline SheetAnswer refuse_sheet(uint32_t number, size_t place, uint32_t cart, uint32_t step) {
     SheetAnswer answer;
     answer.number = number;
     answer.place = static_cast<uint32_t>(place);
+    answer.cart = cart;
+    answer.step = step;
     return answer;
 }
 
-inline SheetAnswer read_sheet(const Bytes& bytes) {
+// At the field taken last, cut or not. #104: "A cut in a cart's part counts as that cart's."
+inline SheetAnswer refuse_sheet(uint32_t number, const FieldReader& field) {
+    return refuse_sheet(number, field.place, field.cart, field.step);
+}
+
+// First way to the cart and step of a refusal: counted along with the fields.
+inline SheetAnswer scan_sheet(const Bytes& bytes) {
     Sheet sheet;
     std::vector<uint32_t> arrival_places;
     FieldReader field(bytes);
 
     // "Version byte 1"
-    if (!field.take(1)) return refuse_sheet(1, field.place);
-    if (field.value != 1) return refuse_sheet(2, 0);
+    if (!field.take(1)) return refuse_sheet(1, field);
+    if (field.value != 1) return refuse_sheet(2, field);
 
     // "total length (2 bytes)"; "length field differs from bytes lent"
-    if (!field.take(2)) return refuse_sheet(1, field.place);
-    if (field.value != bytes.size()) return refuse_sheet(3, 1);
+    if (!field.take(2)) return refuse_sheet(1, field);
+    if (field.value != bytes.size()) return refuse_sheet(3, field);
 
     // "zone count n, 1 to 24"
-    if (!field.take(1)) return refuse_sheet(1, field.place);
-    if (field.value == 0 || field.value > 24) return refuse_sheet(4, field.place);
+    if (!field.take(1)) return refuse_sheet(1, field);
+    if (field.value == 0 || field.value > 24) return refuse_sheet(4, field);
     const uint32_t zone_count = field.value;
 
     // "for each zone the follow gap and the cross gap (2 bytes each, 0 to 60,000)"
     for (uint32_t z = 0; z < zone_count; z++) {
         Zone zone;
-        if (!field.take(2)) return refuse_sheet(1, field.place);
-        if (field.value > 60000) return refuse_sheet(5, field.place);
+        if (!field.take(2)) return refuse_sheet(1, field);
+        if (field.value > 60000) return refuse_sheet(5, field);
         zone.follow_gap = field.value;
-        if (!field.take(2)) return refuse_sheet(1, field.place);
-        if (field.value > 60000) return refuse_sheet(5, field.place);
+        if (!field.take(2)) return refuse_sheet(1, field);
+        if (field.value > 60000) return refuse_sheet(5, field);
         zone.cross_gap = field.value;
         sheet.zones.push_back(zone);
     }
 
     // "cart count m, 0 to 16"
-    if (!field.take(1)) return refuse_sheet(1, field.place);
-    if (field.value > 16) return refuse_sheet(6, field.place);
+    if (!field.take(1)) return refuse_sheet(1, field);
+    if (field.value > 16) return refuse_sheet(6, field);
     const uint32_t cart_count = field.value;
 
     for (uint32_t c = 0; c < cart_count; c++) {
         Cart cart;
+        field.cart = c + 1;
+        field.step = 0;
         // "lane (0 to 15)"
-        if (!field.take(1)) return refuse_sheet(1, field.place);
-        if (field.value > 15) return refuse_sheet(7, field.place);
+        if (!field.take(1)) return refuse_sheet(1, field);
+        if (field.value > 15) return refuse_sheet(7, field);
         cart.lane = field.value;
         // "arrival (4 bytes, 0 to 3,600,000)"
-        if (!field.take(4)) return refuse_sheet(1, field.place);
-        if (field.value > 3600000) return refuse_sheet(8, field.place);
+        if (!field.take(4)) return refuse_sheet(1, field);
+        if (field.value > 3600000) return refuse_sheet(8, field);
         cart.arrival = field.value;
         arrival_places.push_back(field.place);
         // "step count 1 to 8"
-        if (!field.take(1)) return refuse_sheet(1, field.place);
-        if (field.value == 0 || field.value > 8) return refuse_sheet(9, field.place);
+        if (!field.take(1)) return refuse_sheet(1, field);
+        if (field.value == 0 || field.value > 8) return refuse_sheet(9, field);
         const uint32_t step_count = field.value;
         // "and each step: zone, passing time, travel time to the next step (2 bytes each, 0 to
         // 60,000; travel is 0 on the last step)" - by the lengths 9 and 837 the zone has one byte
         for (uint32_t s = 0; s < step_count; s++) {
             Step step;
-            if (!field.take(1)) return refuse_sheet(1, field.place);
-            if (field.value >= zone_count) return refuse_sheet(10, field.place);
+            field.step = s + 1;
+            if (!field.take(1)) return refuse_sheet(1, field);
+            if (field.value >= zone_count) return refuse_sheet(10, field);
             // "A route names a zone at most once."
-            if (step_in_route(cart, field.value) >= 0) return refuse_sheet(11, field.place);
+            if (step_in_route(cart, field.value) >= 0) return refuse_sheet(11, field);
             step.zone = field.value;
-            if (!field.take(2)) return refuse_sheet(1, field.place);
-            if (field.value > 60000) return refuse_sheet(12, field.place);
+            if (!field.take(2)) return refuse_sheet(1, field);
+            if (field.value > 60000) return refuse_sheet(12, field);
             step.passing = field.value;
-            if (!field.take(2)) return refuse_sheet(1, field.place);
-            if (field.value > 60000) return refuse_sheet(12, field.place);
-            if (s + 1 == step_count && field.value != 0) return refuse_sheet(12, field.place);
+            if (!field.take(2)) return refuse_sheet(1, field);
+            if (field.value > 60000) return refuse_sheet(12, field);
+            if (s + 1 == step_count && field.value != 0) return refuse_sheet(12, field);
             step.travel = field.value;
             cart.steps.push_back(step);
         }
         sheet.carts.push_back(cart);
     }
 
-    // "13 is tested after all fields, then 14"; "bytes after the last cart", "first of them"
-    if (field.next < bytes.size()) return refuse_sheet(13, field.next);
+    // "13 is tested after all fields, then 14"; "bytes after the last cart", "first of them"; #104: "For
+    // 13 both are 0; for 14 the step is 0."
+    if (field.next < bytes.size()) return refuse_sheet(13, field.next, 0, 0);
 
     // "a cart arrives before a lower-numbered one of its lane", "its arrival, lowest such cart"
     for (size_t c = 0; c < sheet.carts.size(); c++) {
         for (size_t lower = 0; lower < c; lower++) {
             if (sheet.carts[lower].lane != sheet.carts[c].lane) continue;
             if (sheet.carts[c].arrival < sheet.carts[lower].arrival) {
-                return refuse_sheet(14, arrival_places[c]);
+                return refuse_sheet(14, arrival_places[c], static_cast<uint32_t>(c) + 1, 0);
             }
         }
     }
@@ -301,6 +312,49 @@ inline SheetAnswer read_sheet(const Bytes& bytes) {
     answer.sheet = sheet;
     return answer;
 }
+
+// Which cart's part of the sheet a place stands in, and which step's: numbers plus one, else 0.
+struct SheetPart {
+    uint32_t cart = 0;
+    uint32_t step = 0;
+};
+
+// Second way: from the place alone, by the lengths of what stands before it, where all is in order.
+inline SheetPart part_at(const Bytes& bytes, size_t place) {
+    constexpr size_t head_length = 6;                       // lane, arrival, step count
+    constexpr size_t step_length = 5;                       // zone, passing time, travel time
+    SheetPart part;
+    if (place < 4) return part;                             // version, length, zone count
+    size_t first = 5 + 4 * static_cast<size_t>(bytes[3]);   // behind the gaps and the cart count
+    if (place < first) return part;
+    part.cart = 1;
+    while (place >= first + head_length) {
+        const size_t end = first + head_length + step_length * bytes[first + 5];
+        if (place < end) {
+            part.step = static_cast<uint32_t>((place - first - head_length) / step_length) + 1;
+            return part;
+        }
+        first = end;
+        part.cart++;
+    }
+    return part;
+}
+
+inline SheetAnswer read_sheet(const Bytes& bytes) {
+    const SheetAnswer answer = scan_sheet(bytes);
+    if (answer.number == 0 || answer.number == 13) {
+        must(answer.cart == 0 && answer.step == 0, "no cart is told if done, and none with 13");
+        return answer;
+    }
+    const SheetPart part = part_at(bytes, answer.place);
+    must(answer.cart == part.cart && answer.step == part.step, "cart and step: counted, and by the place");
+    must(answer.cart <= 16 && answer.step <= 8, "a cart and a step that a sheet has");
+    double_check_counts.parts++;
+    return answer;
+}
+
+// #104: "every operation passes it on"
+inline void pass_on(const Outcome& refusal, Outcome& answer) { answer = refusal; }
 
 // ---------------------------------------------------------------------------------------------
 // Reading a plan. "the sheet comes fully before the plan"
@@ -314,11 +368,13 @@ inline PlanAnswer refuse_plan(uint32_t number, size_t place) {
 }
 
 inline PlanAnswer read_plan(const Bytes& sheet_bytes, const Bytes& plan_bytes) {
-    const SheetAnswer sheet_answer = read_sheet(sheet_bytes);
-    if (sheet_answer.number != 0) return refuse_plan(sheet_answer.number, sheet_answer.place);
-    const Sheet& sheet = sheet_answer.sheet;
-
     PlanAnswer answer;
+    const SheetAnswer sheet_answer = read_sheet(sheet_bytes);
+    if (sheet_answer.number != 0) {
+        pass_on(sheet_answer, answer);
+        return answer;
+    }
+    const Sheet& sheet = sheet_answer.sheet;
     FieldReader field(plan_bytes);
 
     // "Version byte 1"
@@ -406,8 +462,7 @@ inline WriteAnswer write_plan(const Bytes& sheet_bytes, const Bytes& plan_bytes,
     answer.room = room;
     const PlanAnswer plan = read_plan(sheet_bytes, plan_bytes);
     if (plan.number != 0) {
-        answer.number = plan.number;
-        answer.place = plan.place;
+        pass_on(plan, answer);
         return answer;
     }
     const Bytes written = plan_to_bytes(plan.lists);
@@ -433,8 +488,7 @@ inline ListAnswer list_zone(const Bytes& sheet_bytes, const Bytes& plan_bytes, u
     ListAnswer answer;
     const PlanAnswer plan = read_plan(sheet_bytes, plan_bytes);
     if (plan.number != 0) {
-        answer.number = plan.number;
-        answer.place = plan.place;
+        pass_on(plan, answer);
         return answer;
     }
     if (zone >= plan.lists.size()) {
@@ -1159,8 +1213,7 @@ inline JudgeAnswer judge(const Bytes& sheet_bytes, const Bytes& plan_bytes,
     // "Judging has 1 to 22 and 28."
     const PlanAnswer plan = read_plan(sheet_bytes, plan_bytes);
     if (plan.number != 0) {
-        answer.number = plan.number;
-        answer.place = plan.place;
+        pass_on(plan, answer);
         return answer;
     }
     const Verdict& verdict = verdict_of(sheet_bytes, plan_bytes, plan.sheet, plan.lists);
@@ -1610,8 +1663,7 @@ inline PlanningAnswer make_plan(const Bytes& sheet_bytes, const Bytes& room, Pla
     // "The planner takes no plan and has only 1 to 14 and 28." #101: "none new; 1 to 14 and 28"
     const SheetAnswer sheet_answer = read_sheet(sheet_bytes);
     if (sheet_answer.number != 0) {
-        answer.number = sheet_answer.number;
-        answer.place = sheet_answer.place;
+        pass_on(sheet_answer, answer);
         return answer;
     }
     const Sheet& sheet = sheet_answer.sheet;
@@ -1710,8 +1762,7 @@ inline MoveAnswer move_cart(const Bytes& sheet_bytes, const Bytes& plan_bytes, c
     // "Moving has 1 to 26."
     const PlanAnswer plan = read_plan(sheet_bytes, plan_bytes);
     if (plan.number != 0) {
-        answer.number = plan.number;
-        answer.place = plan.place;
+        pass_on(plan, answer);
         return answer;
     }
     const Verdict& verdict = verdict_of(sheet_bytes, plan_bytes, plan.sheet, plan.lists);
@@ -1769,6 +1820,14 @@ inline MoveAnswer move_cart(const Bytes& sheet_bytes, const Bytes& plan_bytes, c
 // The judge program
 // ---------------------------------------------------------------------------------------------
 
+// "Other refusals print the first line only, with number and place." #104: "The printed first line
+// gets ` cart C step T` at its end, with these numbers, when C isn't 0."
+inline std::string refusal_line(const Outcome& refusal) {
+    std::string line = "refused " + std::to_string(refusal.number) + " at " + std::to_string(refusal.place);
+    if (refusal.cart != 0) line += " cart " + std::to_string(refusal.cart) + " step " + std::to_string(refusal.step);
+    return line + "\n";
+}
+
 inline std::string judge_program(const Bytes& standard_input) {
     // "It reads the first 2,048 bytes of standard input and no more: a sheet, then a plan."
     Bytes read;
@@ -1788,8 +1847,7 @@ inline std::string judge_program(const Bytes& standard_input) {
     const JudgeAnswer answer = judge(sheet_bytes, plan_bytes, words);
     std::string text;
     if (answer.number != 0) {
-        // "Other refusals print the first line only, with number and place."
-        text += "refused " + std::to_string(answer.number) + " at " + std::to_string(answer.place) + "\n";
+        text += refusal_line(answer);
         // "after the first, each cart of the ring in its order, with its wanted zone and the cart
         // it points to" - each points to the next of the ring, the last to the first
         for (size_t i = 0; i < answer.ring.size(); i++) {
@@ -1835,8 +1893,9 @@ inline std::string hex(const Bytes& bytes) {
     return text;
 }
 
-inline std::string number_and_place(const char* operation, uint32_t number, uint32_t place) {
-    return std::string(operation) + " " + std::to_string(number) + " " + std::to_string(place);
+inline std::string to_text(const char* operation, const Outcome& a) {
+    return std::string(operation) + " " + std::to_string(a.number) + " " + std::to_string(a.place) + " "
+           + std::to_string(a.cart) + " " + std::to_string(a.step);
 }
 
 // zones N (FOLLOW CROSS)... carts M (lane arrival steps (zone passing travel)...)...
@@ -1857,14 +1916,14 @@ inline std::string to_text(const Sheet& sheet) {
     return text;
 }
 
-// sheet NUMBER PLACE and the sheet
+// sheet NUMBER PLACE CART STEP and the sheet
 inline std::string to_text(const SheetAnswer& a) {
-    return number_and_place("sheet", a.number, a.place) + " " + to_text(a.sheet);
+    return to_text("sheet", a) + " " + to_text(a.sheet);
 }
 
-// plan NUMBER PLACE lists N (at PLACE count carts...)... and the sheet
+// plan NUMBER PLACE CART STEP lists N (at PLACE count carts...)... and the sheet
 inline std::string to_text(const PlanAnswer& a) {
-    std::string text = number_and_place("plan", a.number, a.place);
+    std::string text = to_text("plan", a);
     text += " lists " + std::to_string(a.lists.size());
     for (size_t z = 0; z < a.lists.size(); z++) {
         text += " at " + std::to_string(a.list_places[z]) + " " + std::to_string(a.lists[z].size());
@@ -1873,21 +1932,21 @@ inline std::string to_text(const PlanAnswer& a) {
     return text + " " + to_text(a.sheet);
 }
 
-// write NUMBER PLACE length L room HEX
+// write NUMBER PLACE CART STEP length L room HEX
 inline std::string to_text(const WriteAnswer& a) {
-    return number_and_place("write", a.number, a.place) + " length " + std::to_string(a.length)
+    return to_text("write", a) + " length " + std::to_string(a.length)
            + " room " + hex(a.room);
 }
 
-// list NUMBER PLACE position P length L
+// list NUMBER PLACE CART STEP position P length L
 inline std::string to_text(const ListAnswer& a) {
-    return number_and_place("list", a.number, a.place) + " position " + std::to_string(a.position)
+    return to_text("list", a) + " position " + std::to_string(a.position)
            + " length " + std::to_string(a.length);
 }
 
-// judge NUMBER PLACE ring K cart zone ... finish F moves M words W w w w ...
+// judge NUMBER PLACE CART STEP ring K cart zone ... finish F moves M words W w w w ...
 inline std::string to_text(const JudgeAnswer& a) {
-    std::string text = number_and_place("judge", a.number, a.place);
+    std::string text = to_text("judge", a);
     text += " ring " + std::to_string(a.ring.size());
     for (const RingCart& entry : a.ring) {
         text += " " + std::to_string(entry.cart) + " " + std::to_string(entry.zone);
@@ -1898,15 +1957,15 @@ inline std::string to_text(const JudgeAnswer& a) {
     return text;
 }
 
-// planning NUMBER PLACE length L finish F room HEX
+// planning NUMBER PLACE CART STEP length L finish F room HEX
 inline std::string to_text(const PlanningAnswer& a) {
-    return number_and_place("planning", a.number, a.place) + " length " + std::to_string(a.length)
+    return to_text("planning", a) + " length " + std::to_string(a.length)
            + " finish " + std::to_string(a.finish) + " room " + hex(a.room);
 }
 
-// move NUMBER PLACE ahead A positions p0 .. p15 made N
+// move NUMBER PLACE CART STEP ahead A positions p0 .. p15 made N
 inline std::string to_text(const MoveAnswer& a) {
-    std::string text = number_and_place("move", a.number, a.place) + " ahead " + std::to_string(a.ahead);
+    std::string text = to_text("move", a) + " ahead " + std::to_string(a.ahead);
     text += " positions";
     for (uint8_t position : a.record.positions) text += " " + std::to_string(position);
     text += " made " + std::to_string(a.record.made);

@@ -26,6 +26,7 @@ using cases::Case;
 using cases::MoveRequest;
 using independent::Bytes;
 using independent::Lists;
+using independent::Outcome;
 using independent::Planner;
 using independent::PlanningAnswer;
 using independent::Record;
@@ -37,28 +38,42 @@ public:
 };
 
 // ---------------------------------------------------------------------------------------------
-// How many answers of each number each operation gave
+// How many answers of each number each operation gave, and how many that tell each cart and step
 // ---------------------------------------------------------------------------------------------
 
 enum Operation {
     reading_sheet, reading_plan, writing, listing, judging, planning, planning_first, planning_better, asking, moving, operations
 };
 
+// Answers counted by number, and by the cart and step of #104, both 0 where none is told.
+struct Answers {
+    uint64_t seen[29] = {};
+    uint64_t told[17][9] = {};
+
+    void count(const Outcome& outcome) {
+        if (outcome.number > 28) throw Difference("document 01 has no such number");
+        if (outcome.cart > 16 || outcome.step > 8) throw Difference("no sheet has such a cart and step");
+        seen[outcome.number]++;
+        told[outcome.cart][outcome.step]++;
+    }
+    void add(const Answers& other) {
+        for (int number = 0; number <= 28; number++) seen[number] += other.seen[number];
+        for (int cart = 0; cart <= 16; cart++) {
+            for (int step = 0; step <= 8; step++) told[cart][step] += other.told[cart][step];
+        }
+    }
+};
+
 struct Tally {
-    uint64_t seen[operations][29] = {};
+    Answers answers[operations];
     uint64_t rings[17] = {};             // by the number of their carts
     uint64_t cut_sheets = 0;             // planned with a group cut
     uint64_t planners[cases::planners_situations] = {};
     uint64_t line[cases::line_situations] = {};
 
-    void count(Operation operation, uint32_t number) {
-        if (number > 28) throw Difference("document 01 has no such number");
-        seen[operation][number]++;
-    }
+    void count(Operation operation, const Outcome& outcome) { answers[operation].count(outcome); }
     void add(const Tally& other) {
-        for (int o = 0; o < operations; o++) {
-            for (int number = 0; number <= 28; number++) seen[o][number] += other.seen[o][number];
-        }
+        for (int o = 0; o < operations; o++) answers[o].add(other.answers[o]);
         for (int length = 0; length <= 16; length++) rings[length] += other.rings[length];
         cut_sheets += other.cut_sheets;
         for (int s = 0; s < cases::planners_situations; s++) planners[s] += other.planners[s];
@@ -116,6 +131,8 @@ class Parts {
 public:
     explicit Parts(const oblakosh_outcome& outcome) {
         add("number", outcome.number);
+        add("cart told", outcome.cart);
+        add("step told", outcome.step);
         add("place", outcome.place);
     }
 
@@ -232,10 +249,11 @@ inline Parts parts_of(const oblakosh_asked& asked) {
 // The independent program's answers in the header's form; unused entries are 0
 // ---------------------------------------------------------------------------------------------
 
-template <class Answer>
-oblakosh_outcome outcome_of(const Answer& answer) {
+inline oblakosh_outcome outcome_of(const Outcome& answer) {
     oblakosh_outcome outcome = {};
     outcome.number = answer.number;
+    outcome.cart = static_cast<uint8_t>(answer.cart);
+    outcome.step = static_cast<uint8_t>(answer.step);
     outcome.place = answer.place;
     return outcome;
 }
@@ -394,7 +412,7 @@ private:
         must_be_same("oblakosh_read_sheet", answer, wanted, oblakosh_read_sheet(sheet.first(), sheet.size()));
         must_be_same("simulator_read_sheet", answer, wanted, simulator_read_sheet(sheet.first(), sheet.size()));
         inputs_must_be_unchanged("oblakosh_read_sheet");
-        tally.count(reading_sheet, answer.number);
+        tally.count(reading_sheet, answer);
     }
 
     // All three planners, each into the case's room; what they say of each other, if the sheet is planned.
@@ -419,7 +437,7 @@ private:
         must_be_same(name, answer, as_declared(answer), function(sheet.first(), sheet.size(), room.first(), room.size()));
         room.must_hold(answer.room, name);
         inputs_must_be_unchanged(name);
-        tally.count(operation, answer.number);
+        tally.count(operation, answer);
         return answer;
     }
 
@@ -439,7 +457,7 @@ private:
         must_be_same("simulator_read_plan", answer, wanted,
                      simulator_read_plan(sheet.first(), sheet.size(), plan.first(), plan.size()));
         inputs_must_be_unchanged("oblakosh_read_plan");
-        tally.count(reading_plan, answer.number);
+        tally.count(reading_plan, answer);
         readable = answer;
         return answer.number;
     }
@@ -451,7 +469,7 @@ private:
                      oblakosh_write_again(sheet.first(), sheet.size(), plan.first(), plan.size(), room.first(), room.size()));
         room.must_hold(answer.room, "oblakosh_write_again");
         inputs_must_be_unchanged("oblakosh_write_again");
-        tally.count(writing, answer.number);
+        tally.count(writing, answer);
     }
 
     void find_list(uint64_t zone) {
@@ -459,7 +477,7 @@ private:
         must_be_same("oblakosh_find_list", answer, as_declared(answer),
                      oblakosh_find_list(sheet.first(), sheet.size(), plan.first(), plan.size(), zone));
         inputs_must_be_unchanged("oblakosh_find_list");
-        tally.count(listing, answer.number);
+        tally.count(listing, answer);
     }
 
     void judge() {
@@ -474,7 +492,7 @@ private:
                      simulator_judge(sheet.first(), sheet.size(), plan.first(), plan.size(), simulators.first(), simulators.size()));
         simulators.must_hold(answer.words, "simulator_judge");
         inputs_must_be_unchanged("oblakosh_judge");
-        tally.count(judging, answer.number);
+        tally.count(judging, answer);
         tally.rings[answer.ring.size()]++;
         if (answer.number != 0 && answer.number != 22) return;
         for (cases::LineSituation found : cases::line_situations_judged(readable.sheet, readable.lists, answer)) tally.line[found]++;
@@ -486,13 +504,13 @@ private:
         const oblakosh_asked wanted = as_declared(answer, request.cart);
         must_be_same("oblakosh_ask", answer, wanted,
                      oblakosh_ask(sheet.first(), sheet.size(), plan.first(), plan.size(), as_declared(request.record), request.cart));
-        tally.count(asking, answer.number);
+        tally.count(asking, answer);
         Lent<oblakosh_record> record({as_declared(request.record)});
         must_be_same("oblakosh_move_cart", answer, wanted,
                      oblakosh_move_cart(sheet.first(), sheet.size(), plan.first(), plan.size(), record.first(), request.cart));
         record.must_hold({as_declared(answer.record)}, "oblakosh_move_cart");
         inputs_must_be_unchanged("oblakosh_move_cart");
-        tally.count(moving, answer.number);
+        tally.count(moving, answer);
         if (answer.number != 23 && answer.number != 26) return;
         for (cases::LineSituation found : cases::line_situations_moved(readable.sheet, readable.lists, request, answer)) tally.line[found]++;
     }

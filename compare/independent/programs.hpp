@@ -3,6 +3,7 @@
 #ifndef PROGRAMS_HPP
 #define PROGRAMS_HPP
 
+#include <cstdio>
 #include <cstdlib>
 #include <fstream>
 #include <iterator>
@@ -13,6 +14,7 @@
 namespace programs {
 
 using independent::Bytes;
+using independent::Outcome;
 using library::Difference;
 
 constexpr const char* judge_path = "target/bin/judge_main";
@@ -55,18 +57,20 @@ inline void must_print(const std::string& command, const Bytes& input, const Pri
                      + "\nprogram:     " + visible(got));
 }
 
-// The number that a program's text begins with: 0 unless it is refused.
-inline uint32_t number_in(const std::string& text) {
-    return text.compare(0, 8, "refused ") == 0 ? static_cast<uint32_t>(std::atoi(text.c_str() + 8)) : 0;
+// What a program's text begins with: all 0 unless it is refused.
+inline Outcome outcome_in(const std::string& text) {
+    Outcome outcome;
+    std::sscanf(text.c_str(), "refused %u at %u cart %u step %u", &outcome.number, &outcome.place, &outcome.cart, &outcome.step);
+    return outcome;
 }
 
 // "It reads the first 2,048 bytes of standard input and no more": what it leaves is printed after it.
-inline uint32_t compare_judge(const Bytes& input) {
+inline Outcome compare_judge(const Bytes& input) {
     const std::string text = independent::judge_program(input);
     const std::string left = to_string(input).substr(std::min<size_t>(input.size(), 2048));
     const std::string command = std::string(judge_path) + " && cat";
     must_print(command, input, Printed{text + left, ""}, run("judge", command, input));
-    return number_in(text);
+    return outcome_in(text);
 }
 
 // The word that asks the planner program for this planner.
@@ -79,17 +83,17 @@ inline std::string word_for(independent::Planner planner) {
 }
 
 // Document 01 has no planner program: ours prints the plan, or the refusal as standard error.
-inline uint32_t compare_planner(const Bytes& sheet, independent::Planner planner) {
+inline Outcome compare_planner(const Bytes& sheet, independent::Planner planner) {
     const independent::PlanningAnswer answer = independent::make_plan(sheet, Bytes(156, 0), planner);
     Printed wanted;
     if (answer.number == 0) {
         wanted.output = to_string(answer.room).substr(0, answer.length);
     } else {
-        wanted.errors = "refused " + std::to_string(answer.number) + " at " + std::to_string(answer.place) + "\n";
+        wanted.errors = independent::refusal_line(answer);
     }
     const std::string command = planner_path + word_for(planner);
     must_print(command, sheet, wanted, run("planner", command, sheet));
-    return answer.number;
+    return answer;
 }
 
 }  // namespace programs

@@ -1,6 +1,7 @@
-// Holds the independent program to document 01's examples 1 to 15, to the sheets of cut-groups.txt, first-come.txt and planned.txt, and to what
-// documents 01 and 02 say of every answer. Run from the repository's folder, by compare/independent/run. With the word first-come it writes that
-// file's lines, with the word planned those of compare/planned.txt for the sheets there.
+// Holds the independent program to document 01's examples 1 to 15, to the sheets of cut-groups.txt, first-come.txt and planned.txt, to what was
+// expected by hand of the sheets and plans in crates/vectors/data, and to what documents 01 and 02 say of every answer. Run from the repository's
+// folder, by compare/independent/run. With the word first-come it writes that file's lines, with the word planned those of compare/planned.txt
+// for the sheets there.
 
 #include <cstdio>
 #include <cstdlib>
@@ -23,6 +24,15 @@ static uint64_t checks = 0;
 static void check(bool condition, const std::string& what) {
     checks++;
     if (!condition) throw std::logic_error(what);
+}
+
+static bool same_outcome(const Outcome& a, const Outcome& b) {
+    return a.number == b.number && a.place == b.place && a.cart == b.cart && a.step == b.step;
+}
+
+// An operation refuses as reading its input does; what it refuses after that has place, cart and step 0.
+static bool passes_on(const Outcome& answer, const Outcome& reading) {
+    return same_outcome(answer, reading.number == 0 ? Outcome{answer.number, 0, 0, 0} : reading);
 }
 
 static bool same_record(const Record& a, const Record& b) {
@@ -182,13 +192,13 @@ static void check_scan(Random& random, const Case& c) {
         Bytes other = c.sheet;
         for (size_t i = sheet.place + 4; i < other.size(); i++) other[i] = static_cast<uint8_t>(random.below(256));
         const SheetAnswer again = read_sheet(other);
-        check(again.number == sheet.number && again.place == sheet.place, "bytes after the field don't matter");
+        check(same_outcome(again, sheet), "bytes after the field don't matter");
     }
     if (sheet.number >= 4 && sheet.number <= 12) {
         Bytes cut(c.sheet.begin(), c.sheet.begin() + sheet.place);
         cases::correct_length(cut);
         const SheetAnswer again = read_sheet(cut);
-        check(again.number == 1 && again.place == sheet.place, "cut at the field: 1 there");
+        check(same_outcome(again, Outcome{1, sheet.place, sheet.cart, sheet.step}), "cut at the field: 1 there");
     }
     if (sheet.number == 13) {
         Bytes cut(c.sheet.begin(), c.sheet.begin() + sheet.place);
@@ -211,13 +221,13 @@ static void check_scan(Random& random, const Case& c) {
         Bytes other = c.plan;
         for (size_t i = plan.place + 2; i < other.size(); i++) other[i] = static_cast<uint8_t>(random.below(256));
         const PlanAnswer again = read_plan(c.sheet, other);
-        check(again.number == plan.number && again.place == plan.place, "plan: bytes after the field don't matter");
+        check(same_outcome(again, plan), "plan: bytes after the field don't matter");
     }
     if (plan.number == 18 || plan.number == 19) {
         Bytes cut(c.plan.begin(), c.plan.begin() + plan.place);
         cases::correct_length(cut);
         const PlanAnswer again = read_plan(c.sheet, cut);
-        check(again.number == 15 && again.place == plan.place, "plan cut at the field: 15 there");
+        check(same_outcome(again, Outcome{15, plan.place, 0, 0}), "plan cut at the field: 15 there");
     }
     if (plan.number == 20) {
         Bytes cut(c.plan.begin(), c.plan.begin() + plan.place);
@@ -269,12 +279,15 @@ static void check_whole_run(Random& random, const Case& c) {
 static void run_case(Random& random, const Case& c, bool whole_run) {
     const SheetAnswer sheet = read_sheet(c.sheet);
     check(sheet.number <= 14, "reading a sheet has 1 to 14");
+    check(sheet.cart == 0 || sheet.number == 1 || (sheet.number >= 7 && sheet.number <= 12) || sheet.number == 14,
+          "a cart is told with 1, 7 to 12 and 14 alone");
+    check(sheet.cart > 0 || sheet.number < 7 || sheet.number == 13, "a cart is told with all of 7 to 12 and 14");
+    check(sheet.step == 0 || sheet.number == 1 || (sheet.number >= 10 && sheet.number <= 12), "a step is told with 1 and 10 to 12 alone");
+    check(sheet.cart > 0 || sheet.step == 0, "no step is told without a cart");
 
     const PlanAnswer plan = read_plan(c.sheet, c.plan);
     check(plan.number <= 21, "reading a plan has 1 to 21");
-    if (sheet.number != 0) {
-        check(plan.number == sheet.number && plan.place == sheet.place, "the sheet comes fully before the plan");
-    }
+    check(sheet.number == 0 ? plan.cart == 0 && plan.step == 0 : same_outcome(plan, sheet), "the sheet comes fully before the plan");
     check(plan.number == 0 || plan.lists.empty(), "refused: no lists");
 
     const WriteAnswer write = write_plan(c.sheet, c.plan, c.write_room);
@@ -282,9 +295,8 @@ static void run_case(Random& random, const Case& c, bool whole_run) {
     check(write.room.size() == c.write_room.size(), "the room keeps its length");
     if (write.number != 0) {
         check(write.room == c.write_room && write.length == 0, "refused: room as lent");
-        check(write.number == 28 ? (plan.number == 0 && c.write_room.size() < c.plan.size())
-                                 : write.number == plan.number && write.place == plan.place,
-              "writing refuses as reading");
+        check(passes_on(write, plan), "writing refuses as reading");
+        check((write.number == 28) == (plan.number == 0) && (write.number != 28 || c.write_room.size() < c.plan.size()), "writing: 28");
     } else {
         check(write.length == c.plan.size(), "writing: length");
         for (size_t i = 0; i < write.room.size(); i++) {
@@ -295,6 +307,7 @@ static void run_case(Random& random, const Case& c, bool whole_run) {
     for (uint64_t zone : c.list_zones) {
         const ListAnswer list = list_zone(c.sheet, c.plan, zone);
         check(list.number <= 21 || list.number == 27, "the list operation has 1 to 21 and 27");
+        check(passes_on(list, plan), "the list operation refuses as reading");
         if (list.number != 0) check(list.position == 0 && list.length == 0, "refused: empty list");
         if (list.number == 0) {
             check(list.position + list.length <= c.plan.size() && c.plan[list.position - 1] == list.length,
@@ -306,11 +319,12 @@ static void run_case(Random& random, const Case& c, bool whole_run) {
     check(verdict.number <= 22 || verdict.number == 28, "judging has 1 to 22 and 28");
     check((verdict.number == 22) == !verdict.ring.empty(), "a ring exactly with 22");
     if (verdict.number != 0) check(verdict.words == c.words && verdict.finish == 0 && verdict.moves == 0, "refused");
+    check(passes_on(verdict, plan), "judging refuses as reading");
 
     for (Planner planner : {Planner::removal, Planner::first_come, Planner::better}) {
         const PlanningAnswer planning = make_plan(c.sheet, c.planning_room, planner);
         check(planning.number <= 14 || planning.number == 28, "planning has 1 to 14 and 28");
-        check(planning.number == 28 || planning.number == sheet.number, "planning refuses as reading the sheet");
+        check(passes_on(planning, sheet), "planning refuses as reading the sheet");
         if (planning.number != 0) {
             check(planning.room == c.planning_room && planning.length == 0 && planning.finish == 0, "refused: room as lent");
             continue;
@@ -328,14 +342,110 @@ static void run_case(Random& random, const Case& c, bool whole_run) {
         check(move.number <= 26, "moving has 1 to 26");
         check((move.number == 26) == (move.ahead > 0), "carts ahead exactly with 26");
         if (move.number != 0) check(same_record(move.record, request.record), "refused: record as lent");
-        if (plan.number != 0) check(move.number == plan.number && move.place == plan.place, "moving refuses as reading");
+        check(passes_on(move, plan), "moving refuses as reading");
     }
 
     const std::string text = judge_program(c.standard_input);
     check(text.back() == '\n', "each line ends with a line feed");
+    const std::string first_line = text.substr(0, text.find('\n'));
+    check((first_line.find(" cart ") == std::string::npos) == (first_line.find(" step ") == std::string::npos), "cart and step, or neither");
 
     check_scan(random, c);
     if (whole_run) check_whole_run(random, c);
+}
+
+// ---------------------------------------------------------------------------------------------
+// The cart and step of #104
+// ---------------------------------------------------------------------------------------------
+
+// S and plan A spoilt by hand: what the judge program prints. Cart 0's part begins at 13, cart 1's at 29.
+static void part_examples() {
+    struct Example {
+        size_t place, width;
+        uint32_t value;
+        const char* line;
+    };
+    const Example wrong[] = {
+        {0, 1, 2, "refused 2 at 0\n"},
+        {3, 1, 25, "refused 4 at 3\n"},
+        {10, 2, 60001, "refused 5 at 10\n"},
+        {12, 1, 17, "refused 6 at 12\n"},
+        {12, 1, 1, "refused 13 at 29\n"},
+        {12, 1, 3, "refused 1 at 45 cart 3 step 0\n"},
+        {13, 1, 16, "refused 7 at 13 cart 1 step 0\n"},
+        {14, 4, 3600001, "refused 8 at 14 cart 1 step 0\n"},
+        {18, 1, 0, "refused 9 at 18 cart 1 step 0\n"},
+        {19, 1, 2, "refused 10 at 19 cart 1 step 1\n"},
+        {22, 2, 60001, "refused 12 at 22 cart 1 step 1\n"},
+        {24, 1, 0, "refused 11 at 24 cart 1 step 2\n"},
+        {27, 2, 1, "refused 12 at 27 cart 1 step 2\n"},
+        {29, 1, 16, "refused 7 at 29 cart 2 step 0\n"},
+        {30, 4, 3600001, "refused 8 at 30 cart 2 step 0\n"},
+        {34, 1, 9, "refused 9 at 34 cart 2 step 0\n"},
+        {34, 1, 1, "refused 12 at 38 cart 2 step 1\n"},      // its first step is now the last
+        {34, 1, 3, "refused 1 at 45 cart 2 step 3\n"},       // its third step is not there
+        {36, 2, 60001, "refused 12 at 36 cart 2 step 1\n"},
+        {40, 1, 255, "refused 10 at 40 cart 2 step 2\n"}};
+    const Bytes A = cases::from_hex("01 000A 02 02 00 01 02 00 01");
+    for (const Example& example : wrong) {
+        Bytes sheet = S;
+        cases::put_number(sheet, example.place, example.width, example.value);
+        check(judge_program(together(sheet, A)) == example.line, std::string("parts: ") + example.line);
+    }
+}
+
+// Every operation tells what the sheet's reader tells, and the judge program prints it.
+static void check_spoilt(const cases::SpoiltSheet& spoilt, const Bytes& plan) {
+    const Outcome& wanted = spoilt.wanted;
+    check(same_outcome(read_sheet(spoilt.bytes), wanted), "parts: reading a sheet");
+    check(same_outcome(read_plan(spoilt.bytes, plan), wanted), "parts: reading a plan");
+    check(same_outcome(write_plan(spoilt.bytes, plan, Bytes(156, 0)), wanted), "parts: writing again");
+    check(same_outcome(list_zone(spoilt.bytes, plan, 0), wanted), "parts: the list operation");
+    check(same_outcome(judge(spoilt.bytes, plan, std::vector<uint32_t>(128, 0)), wanted), "parts: judging");
+    check(same_outcome(move_cart(spoilt.bytes, plan, Record(), 0), wanted), "parts: moving");
+    for (Planner planner : {Planner::removal, Planner::first_come, Planner::better}) {
+        check(same_outcome(make_plan(spoilt.bytes, Bytes(156, 0), planner), wanted), "parts: planning");
+    }
+}
+
+static void check_parts() {
+    part_examples();
+    Random random(104);
+    std::vector<Sheet> sheets = {read_sheet(S).sheet, cases::longest_sheet()};
+    for (uint32_t i = 0; i < 40; i++) sheets.push_back(cases::random_sheet(random, i % 4 == 0 ? cases::large_shape() : cases::small_shape()));
+    uint64_t spoilt_sheets = 0;
+    uint64_t told[17][9] = {};
+    for (const Sheet& sheet : sheets) {
+        const Bytes plan = cases::plan_to_bytes(cases::one_order_lists(random, sheet));
+        for (const cases::SpoiltSheet& spoilt : cases::spoilt_sheets(sheet)) {
+            check_spoilt(spoilt, plan);
+            told[spoilt.wanted.cart][spoilt.wanted.step]++;
+            spoilt_sheets++;
+        }
+    }
+    for (int cart = 1; cart <= 16; cart++) {
+        for (int step = 0; step <= 8; step++) check(told[cart][step] > 0, "parts: every cart and step is told");
+    }
+    std::printf("selftest: the cart and step of %llu spoilt sheets\n", static_cast<unsigned long long>(spoilt_sheets));
+}
+
+// Sheets and plans stored for the python programs, each under a line that begins with what was expected of it by hand.
+static void run_vectors(const char* file) {
+    std::ifstream input(file);
+    uint32_t cases_read = 0;
+    std::string above;
+    for (std::string line; std::getline(input, line); above = line) {
+        if (line.empty() || line[0] == '#') continue;
+        const size_t bar = line.find('|');
+        const Bytes sheet = cases::from_hex(line.substr(0, bar));
+        const Outcome outcome = bar == std::string::npos ? Outcome(read_sheet(sheet)) : read_plan(sheet, cases::from_hex(line.substr(bar)));
+        std::string wanted = outcome.number == 0 ? "done\n" : refusal_line(outcome).substr(std::strlen("refused "));
+        wanted.back() = ':';
+        check(above.compare(2, wanted.size(), wanted) == 0, std::string(file) + ": " + wanted + " not as expected by hand: " + above);
+        cases_read++;
+    }
+    check(cases_read > 0, std::string("no cases in ") + file);
+    std::printf("selftest: %u cases of %s as expected by hand\n", cases_read, file);
 }
 
 // ---------------------------------------------------------------------------------------------
@@ -973,6 +1083,9 @@ int main(int words, char** word) {
         }
         examples();
         std::printf("selftest: examples 1 to 15 as document 01 says\n");
+        check_parts();
+        run_vectors("crates/vectors/data/sheets.txt");
+        run_vectors("crates/vectors/data/plans.txt");
         run_cut_groups();
         run_first_come();
         run_planned();

@@ -190,9 +190,15 @@ static void make(crossing *c, int locked)
 static crossing apart, locked, refused;
 static uint32_t words[OBLAKOSH_WORDS];
 
-#define IS_DONE(outcome) IS((outcome).number, 0u); IS((outcome).place, 0u)
-/* The gap of zone 5 is the field at 4 + 4 * 5. */
-#define IS_REFUSED(outcome) IS((outcome).number, (uint32_t)OBLAKOSH_GAP); IS((outcome).place, 24u)
+#define IS_OUTCOME(outcome, wanted_number, wanted_cart, wanted_step, wanted_place) \
+    IS((outcome).number, wanted_number); \
+    IS((outcome).cart, wanted_cart); \
+    IS((outcome).step, wanted_step); \
+    IS((outcome).place, wanted_place)
+#define IS_DONE(outcome) IS_OUTCOME(outcome, 0u, 0, 0, 0u)
+/* The carts begin at 101, and cart 0 has five steps: the passing time of its step 3 is the field at 101 + 6 + 5 * 3 + 1. */
+enum { LONG_PASSING = 123 };
+#define IS_REFUSED(outcome) IS_OUTCOME(outcome, (uint32_t)OBLAKOSH_TIME, 1, 4, (size_t)LONG_PASSING)
 
 static void reading_a_sheet(void)
 {
@@ -337,7 +343,7 @@ int main(void)
     make(&apart, 0);
     make(&locked, 1);
     refused = apart;
-    refused.s.bytes[24] = 0xFF;
+    refused.s.bytes[LONG_PASSING] = 0xFF;
     reading_a_sheet();
     reading_a_plan();
     judging();

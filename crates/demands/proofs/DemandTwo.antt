@@ -307,7 +307,7 @@ module _ (s p room : List ℕ) where
   checks = writingChecks s p (length room)
 
   checks-say : Says checks ((SheetPasses s × PlanPasses (sheetOf s) p) × (planLength (sheetOf s) ≤ length room))
-  checks-say = reading-says s p then check-says 28 0 (lit< tt) (leb-says (planLength (sheetOf s)) (length room))
+  checks-say = reading-says s p then check-says _ (lit< tt) (leb-says (planLength (sheetOf s)) (length room))
 
   plan-long : Readable s p → length p ≡ planLength (sheetOf s)
   plan-long readable = readable-length s p readable .0 ∙ ap (λ (x : PlanRead). planLength (x .sheet)) (readable-whole s p readable)

@@ -1,6 +1,6 @@
 // What the judge says of a sheet and a plan, printed as document 01 shows it.
-use fields::Cursor;
 use fields::Field;
+use fields::outside;
 use fields::two_bytes;
 use judge::judge;
 use judge_ring::Ring;
@@ -19,7 +19,7 @@ ghost use Rattle.judge_text.specs.inner.Input.{sheetLength};
 fn sheet_length(input: &[u8]) -> usize
     ensures { λ r. ⌜ (r ≡ sheetLength (now (input .entry))) × (r ≤ length (now (input .entry))) ⌝ }
 {
-    let Field::Value(n, _) = two_bytes(input, Cursor { at: 1 }) else {
+    let Field::Value(n, _) = two_bytes(input, outside(1)) else {
         return input.len();
     };
     if input.len() < n as usize {
@@ -111,8 +111,7 @@ pub fn show_judged(s: &[u8], p: &[u8]) {
     let judged = judge(s, p, &mut words);
     let outcome = judged.outcome;
     if outcome.number != 0 {
-        sheet_text::put_refusal(outcome);
-        end_line();
+        sheet_text::show_refusal(outcome);
         show_ring(judged.ring);
         return;
     }

@@ -2,9 +2,10 @@
 use fields::Cursor;
 use fields::Field;
 use fields::one_byte;
+use fields::outside;
+use fields::refused_at;
 use fields::two_bytes;
 use words::Outcome;
-use words::refused;
 ghost use mathlib.Core.Path.{_≡_};
 ghost use Prim.Native.Nat.{_≤_};
 ghost use Rattle.opening.specs.inner.Opening.{openingAt};
@@ -20,27 +21,28 @@ pub fn read_opening(s: &[u8], first: u32, least: usize, most: usize) -> Opening
     requires { ⌜ first ≤ 15 ⌝ }
     ensures { λ r. ⌜ r ≡ openingAt (now (s .entry)) first least most ⌝ }
 {
-    let Field::Value(version, c) = one_byte(s, Cursor { at: 0 }) else {
-        return Opening::Refused(refused(first, 0));
+    let start = outside(0);
+    let Field::Value(version, c) = one_byte(s, start) else {
+        return Opening::Refused(refused_at(first, start));
     };
     if version != 1 {
-        return Opening::Refused(refused(first + 1, 0));
+        return Opening::Refused(refused_at(first + 1, start));
     }
     let Field::Value(total, c2) = two_bytes(s, c) else {
-        return Opening::Refused(refused(first, c.at));
+        return Opening::Refused(refused_at(first, c));
     };
     if total as usize != s.len() {
-        return Opening::Refused(refused(first + 2, c.at));
+        return Opening::Refused(refused_at(first + 2, c));
     }
     let Field::Value(count, c3) = one_byte(s, c2) else {
-        return Opening::Refused(refused(first, c2.at));
+        return Opening::Refused(refused_at(first, c2));
     };
     let n = count as usize;
     if n < least {
-        return Opening::Refused(refused(first + 3, c2.at));
+        return Opening::Refused(refused_at(first + 3, c2));
     }
     if most < n {
-        return Opening::Refused(refused(first + 3, c2.at));
+        return Opening::Refused(refused_at(first + 3, c2));
     }
     Opening::Zones(n, c3)
 }

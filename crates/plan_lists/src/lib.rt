@@ -2,11 +2,12 @@
 use fields::Cursor;
 use fields::Field;
 use fields::one_byte;
+use fields::outside;
+use fields::refused_at;
 use sets::carts;
 use sheet_table::Table;
 use words::Outcome;
 use words::done;
-use words::refused;
 ghost use mathlib.Core.Path.{_≡_};
 ghost use Prim.Native.Nat.{_≤_};
 ghost use Rattle.words.specs.inner.Checks.{Left};
@@ -58,31 +59,33 @@ pub enum Taken {
     Refused(Outcome),
 }
 
-// The count of a list at c, which is that of the carts that visit the zone.
-fn take_count(p: &[u8], c: Cursor, who: u16) -> Taken
-    ensures { λ r. ⌜ r ≡ countTaken (now (p .entry)) who c ⌝ }
+// The count of a list at a place, which is that of the carts that visit the zone.
+fn take_count(p: &[u8], at: usize, who: u16) -> Taken
+    ensures { λ r. ⌜ r ≡ countTaken (now (p .entry)) who at ⌝ }
 {
+    let c = outside(at);
     let Field::Value(k, c2) = one_byte(p, c) else {
-        return Taken::Refused(refused(15, c.at));
+        return Taken::Refused(refused_at(15, c));
     };
     if k != carts::count(who) {
-        return Taken::Refused(refused(19, c.at));
+        return Taken::Refused(refused_at(19, c));
     }
     Taken::Got(k as u8, c2)
 }
 
-// The cart at c, which visits the zone and is not seen in its list before.
-fn take_cart(p: &[u8], c: Cursor, who: u16, seen: u16) -> Taken
-    ensures { λ r. ⌜ r ≡ cartTaken (now (p .entry)) who seen c ⌝ }
+// The cart at a place, which visits the zone and is not seen in its list before.
+fn take_cart(p: &[u8], at: usize, who: u16, seen: u16) -> Taken
+    ensures { λ r. ⌜ r ≡ cartTaken (now (p .entry)) who seen at ⌝ }
 {
+    let c = outside(at);
     let Field::Value(i, c2) = one_byte(p, c) else {
-        return Taken::Refused(refused(15, c.at));
+        return Taken::Refused(refused_at(15, c));
     };
     if 15 < i {
-        return Taken::Refused(refused(19, c.at));
+        return Taken::Refused(refused_at(19, c));
     }
     if !carts::has(carts::less(who, seen), i as usize) {
-        return Taken::Refused(refused(19, c.at));
+        return Taken::Refused(refused_at(19, c));
     }
     Taken::Got(i as u8, c2)
 }
@@ -112,7 +115,7 @@ pub struct ListScan {
 // At 16 * z + i of before stand the carts ahead of cart i in zone z's list; count and list are as in Orders.
 pub fn scan_lists(
     p: &[u8],
-    c: Cursor,
+    start: usize,
     n: usize,
     who: &[u16; 24],
     lead: &[u16; 16],
@@ -122,16 +125,16 @@ pub fn scan_lists(
 ) -> ListScan
     requires { ⌜ (n ≤ 24) × Sets (now who) × Blank (now count) (now list) (now before) ⌝ }
     ensures { λ r.
-        ⌜ Left Broken (listsFrom (now (p .entry)) (now (who .entry)) (now (lead .entry)) n 0 noLists c)
+        ⌜ Left Broken (listsFrom (now (p .entry)) (now (who .entry)) (now (lead .entry)) n 0 noLists start)
         (readTo r (now (count .exit)) (now (list .exit)) (now (before .exit))) (r .outcome) ⌝ }
 {
     let mut late = 0;
-    let mut at = c.at;
+    let mut at = start;
     let mut outcome = done();
     let mut z = 0;
     'scan: while z < n {
         let visitors = who[z];
-        let head = take_count(p, Cursor { at }, visitors);
+        let head = take_count(p, at, visitors);
         match head {
             Taken::Refused(o) => {
                 outcome = o;
@@ -143,7 +146,7 @@ pub fn scan_lists(
                 let mut seen = 0u16;
                 let mut e = 0;
                 while e < k as usize {
-                    let entry = take_cart(p, Cursor { at }, visitors, seen);
+                    let entry = take_cart(p, at, visitors, seen);
                     match entry {
                         Taken::Refused(o) => {
                             outcome = o;

@@ -1,6 +1,6 @@
 // Reads a crossing sheet from standard input and writes its plan to standard output, so that sheet and plan together go into the judge program.
 // With no word it plans by the removal rule; the word `first` asks for first come, first through, and `better` for the better of the two.
-// A sheet that is refused writes no plan; number and place then go to standard error, and so does a line on words of another kind.
+// A sheet that is refused writes no plan; the line of its refusal then goes to standard error, and so does a line on words of another kind.
 // A sheet of more than 65,536 bytes is cut there: no length field fits it, whole or cut.
 use libc::STDERR_FILENO;
 use libc::STDIN_FILENO;
@@ -39,11 +39,19 @@ fn of_words() -> Wanted {
     of_word(&word[..n])
 }
 
+// A number after its name.
+fn tell(name: &[u8], n: u64) {
+    io::write_all(STDERR_FILENO, name);
+    io::print_decimal(STDERR_FILENO, n);
+}
+
 fn tell_refusal(outcome: Outcome) {
-    io::write_all(STDERR_FILENO, b"refused ");
-    io::print_decimal(STDERR_FILENO, outcome.number as u64);
-    io::write_all(STDERR_FILENO, b" at ");
-    io::print_decimal(STDERR_FILENO, outcome.place as u64);
+    tell(b"refused ", outcome.number as u64);
+    tell(b" at ", outcome.place as u64);
+    if outcome.cart != 0 {
+        tell(b" cart ", outcome.cart as u64);
+        tell(b" step ", outcome.step as u64);
+    }
     io::write_all(STDERR_FILENO, b"\n");
 }
 

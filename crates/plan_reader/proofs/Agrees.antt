@@ -16,7 +16,7 @@ use Rattle.words.proofs.Filling.{table-none, table-next}
 use Rattle.words.proofs.Tests.{and-both}
 use Rattle.words.proofs.Rows.{rows-next, front-next}
 use Rattle.fields.specs.Field.{fieldChecks}
-use Rattle.fields.specs.declared.Cursor.{Cursor}
+use Rattle.fields.specs.Field.{outside}
 use Rattle.fields.proofs.TakingLaws.{taking-checks, pick-checks}
 use Rattle.sets.specs.inner.Member.{has}
 use Rattle.sheet.specs.Valid.{Valid}
@@ -83,7 +83,7 @@ module _ (sheet : Sheet) (valid : Valid sheet) (p : List ℕ) where
       go true v = ap not (seen-has p z e (cartOf p z e) (visits-below sheet valid z (cartOf p z e) v))
       go false v = refl
 
-  entry-checks : (z e : ℕ) → z < 24 → fieldChecks 15 p (cartAt p z e) 1 19 (isFree z e) ≡ cartChecks sheet p z e
+  entry-checks : (z e : ℕ) → z < 24 → fieldChecks 15 p (outside (cartAt p z e)) 1 19 (isFree z e) ≡ cartChecks sheet p z e
   unfolding cartChecks fieldChecks
   entry-checks z e l = rw (free-is z e l)
 
@@ -93,15 +93,15 @@ module _ (sheet : Sheet) (valid : Valid sheet) (p : List ℕ) where
   late-next z e late few l = rw (late-is sheet p z e few l)
 
   carts-agree : (z : ℕ) → z < 24 → countOf p z ≤ 16 → (n e late : ℕ) → e + n ≡ countOf p z → Late z e late
-      → ((k : ℕ) → k < e → cartOf p z k < 16) → (go : Lists → Cursor → Scanned) (later : List Check)
-      → ((end : ℕ) → Late z (countOf p z) end → whole (go (soFar (z + 1) z (countOf p z) end) (record { at = cartAt p z (countOf p z) })) ≡ tableAnswer later)
-      → whole (cartsFrom p (who sheet z) leads z n e (seen p z e) (soFar (z + 1) z e late) (record { at = cartAt p z e }) go)
+      → ((k : ℕ) → k < e → cartOf p z k < 16) → (go : Lists → ℕ → Scanned) (later : List Check)
+      → ((end : ℕ) → Late z (countOf p z) end → whole (go (soFar (z + 1) z (countOf p z) end) (cartAt p z (countOf p z))) ≡ tableAnswer later)
+      → whole (cartsFrom p (who sheet z) leads z n e (seen p z e) (soFar (z + 1) z e late) (cartAt p z e) go)
       ≡ tableAnswer (each n e (cartChecks sheet p z) ++ later)
   unfolding cartsFrom cartTaken each
   carts-agree z l m zero e late q h few go later k = let end : e ≡ countOf p z = omega arith in rw end (k late (rw end at h))
   carts-agree z l m (suc n) e late q h few go later k =
       rw (append-assoc, ← entry-checks z e l)
-      (taking-checks then Refused answer 15 p 1 (cartAt p z e) 19 (isFree z e) Got _ λ _ t.
+      (taking-checks then Refused answer 15 p 1 (outside (cartAt p z e)) 19 (isFree z e) Got _ λ _ t.
       let both : (visits sheet (cartOf p z e) z ≡ true) × (not (isListed p z e (cartOf p z e)) ≡ true) = and-both _ _ (sym (free-is z e l) ∙ t) in
       let below : cartOf p z e < 16 = visits-below sheet valid z (cartOf p z e) (both .0) in
       rw (
@@ -127,11 +127,11 @@ module _ (sheet : Sheet) (valid : Valid sheet) (p : List ℕ) where
   last = check 20 (countAt p (sheet .zones)) (eqb (countAt p (sheet .zones)) (length p)) ∷ each (sheet .zones) 0 (laneChecks sheet p)
 
   finish-agrees : (late : ℕ) → Late (sheet .zones) 0 late
-      → planOf sheet (finish p (sheet .steps) (sheet .zone) (soFar (sheet .zones) (sheet .zones) 0 late) (record { at = countAt p (sheet .zones) }))
+      → planOf sheet (finish p (sheet .steps) (sheet .zone) (soFar (sheet .zones) (sheet .zones) 0 late) (countAt p (sheet .zones)))
       ≡ tableAnswer last
   unfolding finish each firstFailing
   finish-agrees late h =
-      pick-checks (planOf sheet) Refuses answer 20 (countAt p (sheet .zones)) (eqb (countAt p (sheet .zones)) (length p)) _
+      pick-checks (planOf sheet) Refuses answer 20 (outside (countAt p (sheet .zones))) (eqb (countAt p (sheet .zones)) (length p)) _
       (each (sheet .zones) 0 (laneChecks sheet p))
       (told (eqb late 0) _ _ ∙ sym (h .says []) ∙ ap tableAnswer (append-nil (each (sheet .zones) 0 (laneChecks sheet p))))
     where
@@ -141,7 +141,7 @@ module _ (sheet : Sheet) (valid : Valid sheet) (p : List ℕ) where
       told false orders outcome = refl
 
   lists-agree : (n z late : ℕ) → z + n ≡ sheet .zones → Late z 0 late
-      → whole (listsFrom p visitorsOf leads n z (soFar z z 0 late) (record { at = countAt p z })) ≡ tableAnswer (each n z (listChecks sheet p) ++ last)
+      → whole (listsFrom p visitorsOf leads n z (soFar z z 0 late) (countAt p z)) ≡ tableAnswer (each n z (listChecks sheet p) ++ last)
   unfolding listsFrom countTaken each listChecks
   lists-agree zero z late q h = let end : z ≡ sheet .zones = omega arith in rw end (finish-agrees late (rw end at h))
   lists-agree (suc n) z late q h =
@@ -149,10 +149,10 @@ module _ (sheet : Sheet) (valid : Valid sheet) (p : List ℕ) where
       let start : countAt p z + 1 ≡ cartAt p z 0 = omega arith in
       simp append-assoc
       (rw (who-ones sheet z l)
-      (taking-checks then Refused answer 15 p 1 (countAt p z) 19 (λ k. eqb k (visitors sheet z)) Got _ λ _ t.
+      (taking-checks then Refused answer 15 p 1 (outside (countAt p z)) 19 (λ k. eqb k (visitors sheet z)) Got _ λ _ t.
       let few : countOf p z ≤ 16 = omega (arith, eqb-true (countOf p z) (visitors sheet z) t, visitors-most sheet z) in
       rw (table-next 24 (countOf p) z (countOf p z) _ l refl refl, start)
-      (ap (λ (x : ℕ). whole (cartsFrom p (who sheet z) leads z (countOf p z) 0 x (soFar (z + 1) z 0 late) (record { at = cartAt p z 0 })
+      (ap (λ (x : ℕ). whole (cartsFrom p (who sheet z) leads z (countOf p z) 0 x (soFar (z + 1) z 0 late) (cartAt p z 0)
       (listsFrom p visitorsOf leads n (z + 1)))) (seen-none p z)
       ∙ carts-agree z l few (countOf p z) 0 late (omega arith) h (λ k m. absurd (omega arith)) (listsFrom p visitorsOf leads n (z + 1))
       (each n (z + 1) (listChecks sheet p) ++ last) λ end g.
@@ -163,9 +163,9 @@ module _ (sheet : Sheet) (valid : Valid sheet) (p : List ℕ) where
           whole (onTaken r λ k c. cartsFrom p (who sheet z) leads z k 0 0 (putCount (soFar z z 0 late) z k) c (listsFrom p visitorsOf leads n (z + 1)))
 
       next : (end : ℕ)
-          → whole (listsFrom p visitorsOf leads n (z + 1) (soFar (z + 1) (z + 1) 0 end) (record { at = countAt p (z + 1) })) ≡ tableAnswer
+          → whole (listsFrom p visitorsOf leads n (z + 1) (soFar (z + 1) (z + 1) 0 end) (countAt p (z + 1))) ≡ tableAnswer
           (each n (z + 1) (listChecks sheet p) ++ last)
-          → whole (listsFrom p visitorsOf leads n (z + 1) (soFar (z + 1) z (countOf p z) end) (record { at = cartAt p z (countOf p z) })) ≡
+          → whole (listsFrom p visitorsOf leads n (z + 1) (soFar (z + 1) z (countOf p z) end) (cartAt p z (countOf p z))) ≡
           tableAnswer (each n (z + 1) (listChecks sheet p) ++ last)
       next end g = rw (
         count-next z,
@@ -182,11 +182,11 @@ module _ (sheet : Sheet) (valid : Valid sheet) (p : List ℕ) where
   scan-agrees =
       ap then (opening-of p 15 (sheet .zones))
       ∙ simp append-assoc
-      (taking-checks then NoOpening answer 15 p 1 0 16 _ _ _ λ _ _.
-      taking-checks then NoOpening answer 15 p 2 1 17 _ _ _ λ _ _.
-      taking-checks then NoOpening answer 15 p 1 3 18 _ _ _ λ _ _.
-      ap (λ (l : Lists). whole (listsFrom p visitorsOf leads (sheet .zones) 0 l (record { at = 4 }))) nothing-yet
+      (taking-checks then NoOpening answer 15 p 1 (outside 0) 16 _ _ _ λ _ _.
+      taking-checks then NoOpening answer 15 p 2 (outside 1) 17 _ _ _ λ _ _.
+      taking-checks then NoOpening answer 15 p 1 (outside 3) 18 _ _ _ λ _ _.
+      ap (λ (l : Lists). whole (listsFrom p visitorsOf leads (sheet .zones) 0 l 4)) nothing-yet
       ∙ lists-agree (sheet .zones) 0 0 (omega arith) (late-none answer sheet p))
     where
       then : Opening → PlanRead
-      then r = planOf sheet (onOpening Refuses r λ n c. fromLists p (sheet .zones) (sheet .steps) (sheet .zone) (sheet .lane) c)
+      then r = planOf sheet (onOpening Refuses r λ n c. fromLists p (sheet .zones) (sheet .steps) (sheet .zone) (sheet .lane) (c .at))

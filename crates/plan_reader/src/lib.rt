@@ -1,5 +1,4 @@
 // A plan for a sheet read, in one pass.
-use fields::Cursor;
 use opening::Opening;
 use opening::read_opening;
 use plan::Orders;
@@ -71,7 +70,7 @@ fn plan_refused(outcome: Outcome) -> PlanRead
 // The lists; then no byte may follow (20), and no listed cart has a higher-numbered one of its lane ahead (21).
 fn read_lists(
     p: &[u8],
-    c: Cursor,
+    start: usize,
     zones: usize,
     sheet: &Table,
     count: &mut [u8; 24],
@@ -81,13 +80,13 @@ fn read_lists(
     requires { ⌜ TablesFit zones (steps (now sheet)) (zone (now sheet)) (lane (now sheet)) × Blank (now count) (now list) (now ahead) ⌝ }
     ensures { λ r.
         ⌜ ReadInto (fromLists (now (p .entry)) zones (steps (now (sheet .entry))) (zone (now (sheet .entry))) (lane (now (sheet .entry)))
-        c) r (now (count .exit)) (now (list .exit)) (now (ahead .exit)) ⌝ }
+        start) r (now (count .exit)) (now (list .exit)) (now (ahead .exit)) ⌝ }
 {
     let steps = step_counts(sheet);
     let who = who_visits(sheet, &steps);
     let lead = may_lead(sheet);
     let mut before = [0u16; 384];
-    let scan = scan_lists(p, c, zones, &who, &lead, count, list, &mut before);
+    let scan = scan_lists(p, start, zones, &who, &lead, count, list, &mut before);
     let outcome = scan.outcome;
     if outcome.number != 0 {
         return outcome;
@@ -119,7 +118,7 @@ pub fn read_orders(
     let opening = read_opening(p, 15, zones, zones);
     match opening {
         Opening::Refused(outcome) => outcome,
-        Opening::Zones(n, c) => read_lists(p, c, zones, sheet, count, list, ahead),
+        Opening::Zones(n, c) => read_lists(p, c.at, zones, sheet, count, list, ahead),
     }
 }
 

@@ -8,6 +8,7 @@ use sheet::Sheet;
 use sheet_text::end_line;
 use sheet_text::put;
 use sheet_text::put_refusal;
+use sheet_text::show_refusal;
 ghost use Prim.Native.Nat.{_≤_};
 
 fn say(text: &[u8]) {
@@ -58,11 +59,11 @@ fn show_reading(s: &[u8], p: &[u8]) -> usize {
     let outcome = read.outcome;
     let sheet = read.sheet;
     if outcome.number != 0 {
-        put_refusal(outcome);
+        show_refusal(outcome);
     } else {
         put(b"ok zones ", sheet.zones as u64);
+        end_line();
     }
-    end_line();
     let orders = read.orders;
     let ahead = orders.ahead;
     show_ahead(sheet, &ahead);

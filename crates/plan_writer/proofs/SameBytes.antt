@@ -23,7 +23,7 @@ use Rattle.plan_writer.specs.declared.PlanWritten.{PlanWritten}
 
 module _ (s p room : List ℕ) where
   writing-says : Says (writingChecks s p (length room)) ((SheetPasses s × PlanPasses (sheetOf s) p) × (planLength (sheetOf s) ≤ length room))
-  writing-says = reading-says s p then check-says 28 0 (lit< tt) (leb-says (planLength (sheetOf s)) (length room))
+  writing-says = reading-says s p then check-says _ (lit< tt) (leb-says (planLength (sheetOf s)) (length room))
 
   writing-passes : writeAgain s p (length room) .outcome .number ≡ 0 → AllPass (writingChecks s p (length room))
   unfolding writeAgain

@@ -3,12 +3,12 @@ use fields::Cursor;
 use fields::Field;
 use fields::four_bytes;
 use fields::one_byte;
+use fields::refused_at;
 use fields::two_bytes;
 use sets::zones;
 use words::LATEST_ARRIVAL;
 use words::MOST_TIME;
 use words::Outcome;
-use words::refused;
 ghost use mathlib.Core.Path.{_≡_};
 ghost use Prim.Native.Nat.{_≤_, _<_};
 ghost use lib.Dec.{leb};
@@ -40,25 +40,25 @@ pub fn read_head(s: &[u8], c: Cursor) -> Head
     ensures { λ r. ⌜ r ≡ headAt (now (s .entry)) c ⌝ }
 {
     let Field::Value(lane, c2) = one_byte(s, c) else {
-        return Head::Refused(refused(1, c.at));
+        return Head::Refused(refused_at(1, c));
     };
     if 15 < lane {
-        return Head::Refused(refused(7, c.at));
+        return Head::Refused(refused_at(7, c));
     }
     let Field::Value(arrival, c3) = four_bytes(s, c2) else {
-        return Head::Refused(refused(1, c2.at));
+        return Head::Refused(refused_at(1, c2));
     };
     if LATEST_ARRIVAL < arrival {
-        return Head::Refused(refused(8, c2.at));
+        return Head::Refused(refused_at(8, c2));
     }
     let Field::Value(steps, c4) = one_byte(s, c3) else {
-        return Head::Refused(refused(1, c3.at));
+        return Head::Refused(refused_at(1, c3));
     };
     if steps < 1 {
-        return Head::Refused(refused(9, c3.at));
+        return Head::Refused(refused_at(9, c3));
     }
     if 8 < steps {
-        return Head::Refused(refused(9, c3.at));
+        return Head::Refused(refused_at(9, c3));
     }
     let head = CartHead {
         lane: lane as u8,
@@ -86,25 +86,25 @@ pub fn read_step(s: &[u8], c: Cursor, n: usize, seen: u32, j: usize, k: usize) -
     ensures { λ r. ⌜ r ≡ stepAt (now (s .entry)) n (has seen) j k c ⌝ }
 {
     let Field::Value(z, c2) = one_byte(s, c) else {
-        return Step::Refused(refused(1, c.at));
+        return Step::Refused(refused_at(1, c));
     };
     if n <= z as usize {
-        return Step::Refused(refused(10, c.at));
+        return Step::Refused(refused_at(10, c));
     }
     if zones::has(seen, z as usize) {
-        return Step::Refused(refused(11, c.at));
+        return Step::Refused(refused_at(11, c));
     }
     let Field::Value(p, c3) = two_bytes(s, c2) else {
-        return Step::Refused(refused(1, c2.at));
+        return Step::Refused(refused_at(1, c2));
     };
     if MOST_TIME < p {
-        return Step::Refused(refused(12, c2.at));
+        return Step::Refused(refused_at(12, c2));
     }
     let Field::Value(t, c4) = two_bytes(s, c3) else {
-        return Step::Refused(refused(1, c3.at));
+        return Step::Refused(refused_at(1, c3));
     };
     if !is_travel(t, j, k) {
-        return Step::Refused(refused(12, c3.at));
+        return Step::Refused(refused_at(12, c3));
     }
     Step::Got(z as u8, p as u16, t as u16, c4)
 }

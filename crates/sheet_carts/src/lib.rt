@@ -1,5 +1,7 @@
 // All carts read: nested loops, left at the first byte that breaks a rule.
-use fields::Cursor;
+use fields::in_cart;
+use fields::in_step;
+use fields::refused_at;
 use sets::zones;
 use sheet_cart::Head;
 use sheet_cart::Step;
@@ -40,19 +42,19 @@ fn is_early(sheet: &Table, i: usize) -> bool
 }
 
 // After all fields: no byte may follow (13), then the arrivals on each lane of m carts (14).
-fn finished(s: &[u8], c: Cursor, m: usize, sheet: &Table, spot: &[usize; 16]) -> Outcome
+fn finished(s: &[u8], at: usize, m: usize, sheet: &Table, spot: &[usize; 16]) -> Outcome
     requires { ⌜ m ≤ 16 ⌝ }
     ensures { λ r.
-        ⌜ ((n : ℕ) → Left sheetRefused (finish (now (s .entry)) (sheetIn n m (now (sheet .entry))) (now (spot .entry)) c)
+        ⌜ ((n : ℕ) → Left sheetRefused (finish (now (s .entry)) (sheetIn n m (now (sheet .entry))) (now (spot .entry)) at)
         (sheetDone (sheetIn n m (now (sheet .entry)))) r) ⌝ }
 {
-    if c.at != s.len() {
-        return refused(13, c.at);
+    if at != s.len() {
+        return refused(13, at);
     }
     let mut i = 0;
     while i < m {
         if is_early(sheet, i) {
-            return refused(14, spot[i]);
+            return refused_at(14, in_cart(i, spot[i]));
         }
         i += 1;
     }
@@ -69,7 +71,7 @@ pub struct Reached {
 // seen holds the zones that the cart's route has named so far.
 fn scan_carts(
     s: &[u8],
-    c: Cursor,
+    start: usize,
     n: usize,
     m: usize,
     sheet: &mut Table,
@@ -77,14 +79,14 @@ fn scan_carts(
 ) -> Reached
     requires { ⌜ (n ≤ 24) × (m ≤ 16) ⌝ }
     ensures { λ r.
-        ⌜ Left sheetRefused (cartsFrom (now (s .entry)) m 0 (sheetIn n m (now (sheet .entry))) (now (spot .entry)) c)
-        (finish (now (s .entry)) (sheetIn n m (now (sheet .exit))) (now (spot .exit)) (record { at = r .at })) (r .outcome) ⌝ }
+        ⌜ Left sheetRefused (cartsFrom (now (s .entry)) m 0 (sheetIn n m (now (sheet .entry))) (now (spot .entry)) start)
+        (finish (now (s .entry)) (sheetIn n m (now (sheet .exit))) (now (spot .exit)) (r .at)) (r .outcome) ⌝ }
 {
-    let mut at = c.at;
+    let mut at = start;
     let mut outcome = done();
     let mut i = 0;
     'scan: while i < m {
-        let head = read_head(s, Cursor { at });
+        let head = read_head(s, in_cart(i, at));
         match head {
             Head::Refused(o) => {
                 outcome = o;
@@ -98,7 +100,7 @@ fn scan_carts(
                 let mut seen = 0u32;
                 let mut j = 0;
                 while j < k {
-                    let step = read_step(s, Cursor { at }, n, seen, j, k);
+                    let step = read_step(s, in_step(i, j, at), n, seen, j, k);
                     match step {
                         Step::Refused(o) => {
                             outcome = o;
@@ -120,18 +122,17 @@ fn scan_carts(
 }
 
 // The m carts of n zones, and what follows them: number 0, and the sheet has the carts, or a refusal.
-pub fn read_carts(s: &[u8], c: Cursor, n: usize, m: usize, sheet: &mut Table) -> Outcome
+pub fn read_carts(s: &[u8], start: usize, n: usize, m: usize, sheet: &mut Table) -> Outcome
     requires { ⌜ (n ≤ 24) × (m ≤ 16) ⌝ }
     ensures { λ r.
-        ⌜ Left sheetRefused (cartsFrom (now (s .entry)) m 0 (sheetIn n m (now (sheet .entry))) (replicate 16 0) c)
+        ⌜ Left sheetRefused (cartsFrom (now (s .entry)) m 0 (sheetIn n m (now (sheet .entry))) (replicate 16 0) start)
         (sheetDone (sheetIn n m (now (sheet .exit)))) r ⌝ }
 {
     let mut spot = [0usize; 16];
-    let reached = scan_carts(s, c, n, m, sheet, &mut spot);
+    let reached = scan_carts(s, start, n, m, sheet, &mut spot);
     let outcome = reached.outcome;
     if outcome.number != 0 {
         return outcome;
     }
-    let at = reached.at;
-    finished(s, Cursor { at }, m, sheet, &spot)
+    finished(s, reached.at, m, sheet, &spot)
 }

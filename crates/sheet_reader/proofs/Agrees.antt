@@ -4,7 +4,6 @@ use mathlib.Core.Path.{_≡_, refl, sym, ap, _∙_}
 use mathlib.Core.Bool.{Bool, false, _||_}
 use mathlib.Core.List.{List, [], _∷_, _++_, append-assoc}
 use native.Mathlib.Omega.{arith}
-use native.Mathlib.Numerals.{add-one}
 use lib.Dec.{eqb}
 use lib.ListN.{length, set}
 use borrow.Author.Tests.{leb-true}
@@ -13,7 +12,7 @@ use Rattle.words.specs.Checks.{Check, check, firstFailing}
 use Rattle.words.proofs.Any.{any-same}
 use Rattle.words.proofs.Filling.{table-none, table-next, table-used}
 use Rattle.words.proofs.Tests.{leb-says, and-says, among-more}
-use Rattle.fields.specs.declared.Cursor.{Cursor}
+use Rattle.fields.specs.Field.{outside, inCart, inStep}
 use Rattle.fields.proofs.TakingLaws.{taking-checks, pick-checks, unless-checks}
 use Rattle.sheet.specs.Layout.{zoneCount, followAt, followOf, crossAt, crossOf, cartCountAt, cartCount, cartAt, laneAt, laneOf, arrivalAt, arrivalOf}
 use Rattle.sheet.specs.Layout.{stepCountAt, stepCount, zoneAt, zoneOf, passingAt, passingOf, travelAt, travelOf, endAt}
@@ -21,6 +20,7 @@ use Rattle.sheet.specs.Checks.{field, isCartCount, isNamedBefore, arrivesEarly,
 use Rattle.sheet.specs.Reading.{blank, sheetRefused, sheetDone, sheetOf, readSheet}
 use Rattle.sheet.specs.declared.Sheet.{Sheet}
 use Rattle.sheet.specs.declared.SheetRead.{SheetRead}
+use Rattle.sheet.proofs.Told.{cart-next}
 use Rattle.sheet_cart.specs.inner.Parts.{headAt, stepAt}
 use Rattle.sheet_cart.specs.declared.Head.{Head}
 use Rattle.sheet_cart.specs.declared.Head.the-variants.{Refused as NoHead}
@@ -63,10 +63,6 @@ module _ (s : List ℕ) where
         ← passed-none s (travelOf s),
       )
 
-  cart-next : (i : ℕ) → cartAt s (i + 1) ≡ zoneAt s i (stepCount s i)
-  unfolding cartAt
-  cart-next i = rw (add-one i)
-
   -- the answer where all of some checks pass
   abbrev first : List Check → SheetRead
   first checks = firstFailing sheetRefused (sheetDone (sheetOf s)) checks
@@ -99,15 +95,15 @@ module _ (s : List ℕ) where
     lanes-agree zero i e = ap sheetDone whole-is
     lanes-agree (suc n) i e =
         rw (early-same (cartCount s) i few (omega arith), table-used 16 (cartCount s) (arrivalAt s) few i (omega arith))
-        (unless-checks (λ r. r) sheetRefused (sheetDone (sheetOf s)) 14 (arrivalAt s i) (arrivesEarly s i) _ (each n (i + 1) (laneChecks s))
+        (unless-checks (λ r. r) sheetRefused (sheetDone (sheetOf s)) 14 (inCart i (arrivalAt s i)) (arrivesEarly s i) _ (each n (i + 1) (laneChecks s))
         (lanes-agree n (i + 1) (omega arith)))
 
     abbrev last : List Check
     last = check 13 (endAt s) (eqb (endAt s) (length s)) ∷ each (cartCount s) 0 (laneChecks s)
 
-    finish-agrees : finish s whole (spots (cartCount s)) (record { at = endAt s }) ≡ first last
+    finish-agrees : finish s whole (spots (cartCount s)) (endAt s) ≡ first last
     unfolding finish
-    finish-agrees = pick-checks (λ r. r) sheetRefused (sheetDone (sheetOf s)) 13 (endAt s) (eqb (endAt s) (length s)) _ _
+    finish-agrees = pick-checks (λ r. r) sheetRefused (sheetDone (sheetOf s)) 13 (outside (endAt s)) (eqb (endAt s) (length s)) _ _
         (lanes-agree (cartCount s) 0 (omega arith))
 
     -- the sheet when step j of cart i is next
@@ -119,21 +115,21 @@ module _ (s : List ℕ) where
     namedBefore i j z = anyBelow (λ e. eqb (zoneOf s i e) z) j
 
     steps-agree : (i n j : ℕ) → i < 16 → stepCount s i ≤ 8 → j + n ≡ stepCount s i
-        → (named : ℕ → Bool) → ((z : ℕ) → named z ≡ namedBefore i j z) → (go : Sheet → Cursor → SheetRead) (later : List Check)
-        → go (atStep i (stepCount s i)) (record { at = zoneAt s i (stepCount s i) }) ≡ first later
-        → stepsFrom s i (stepCount s i) n j named (atStep i j) (record { at = zoneAt s i j }) go ≡ first (each n j (stepChecks s i) ++ later)
+        → (named : ℕ → Bool) → ((z : ℕ) → named z ≡ namedBefore i j z) → (go : Sheet → ℕ → SheetRead) (later : List Check)
+        → go (atStep i (stepCount s i)) (zoneAt s i (stepCount s i)) ≡ first later
+        → stepsFrom s i (stepCount s i) n j named (atStep i j) (zoneAt s i j) go ≡ first (each n j (stepChecks s i) ++ later)
     unfolding stepsFrom stepAt each stepChecks
     steps-agree i zero j hi hk e named same go later h = let q : j ≡ stepCount s i = omega arith in rw q h
     steps-agree i (suc n) j hi hk e named same go later h =
         let third : passingAt s i j + 2 ≡ travelAt s i j = omega arith in
         let fourth : travelAt s i j + 2 ≡ zoneAt s i (j + 1) = omega arith in
         simp append-assoc
-        (taking-checks then NoStep done 1 s 1 (zoneAt s i j) 10 _ _ _ λ _ _.
+        (taking-checks then NoStep done 1 s 1 (inStep i j (zoneAt s i j)) 10 _ _ _ λ _ _.
         rw (same (zoneOf s i j))
-        (unless-checks then NoStep done 11 (zoneAt s i j) (isNamedBefore s i j) _ _
-        (taking-checks then NoStep done 1 s 2 (passingAt s i j) 12 _ _ _ λ _ _.
+        (unless-checks then NoStep done 11 (inStep i j (zoneAt s i j)) (isNamedBefore s i j) _ _
+        (taking-checks then NoStep done 1 s 2 (inStep i j (passingAt s i j)) 12 _ _ _ λ _ _.
         rw third
-        (taking-checks then NoStep done 1 s 2 (travelAt s i j) 12 _ _ _ λ _ _.
+        (taking-checks then NoStep done 1 s 2 (inStep i j (travelAt s i j)) 12 _ _ _ λ _ _.
         rw (
           fourth,
           passed-put s (zoneOf s) i j hi (omega arith),
@@ -150,13 +146,13 @@ module _ (s : List ℕ) where
         then : Step → SheetRead
         then r =
             onStep r λ zone passing travel next.
-            stepsFrom s i (stepCount s i) n (j + 1) (λ z. named z || eqb z zone) (withStep (atStep i j) (8 * i + j) zone passing travel) next go
+            stepsFrom s i (stepCount s i) n (j + 1) (λ z. named z || eqb z zone) (withStep (atStep i j) (8 * i + j) zone passing travel) (next .at) go
 
     -- the sheet when cart i is next
     abbrev atCart : ℕ → Sheet
     atCart i = soFar (zoneCount s) (cartCount s) i i 0
 
-    carts-agree : (n i : ℕ) → i + n ≡ cartCount s → cartsFrom s n i (atCart i) (spots i) (record { at = cartAt s i }) ≡ first (each n i (cartChecks s) ++ last)
+    carts-agree : (n i : ℕ) → i + n ≡ cartCount s → cartsFrom s n i (atCart i) (spots i) (cartAt s i) ≡ first (each n i (cartChecks s) ++ last)
     unfolding cartsFrom headAt each cartChecks anyBelow
     carts-agree zero i e = let q : i ≡ cartCount s = omega arith in rw q finish-agrees
     carts-agree (suc n) i e =
@@ -164,10 +160,10 @@ module _ (s : List ℕ) where
         let third : stepCountAt s i + 1 ≡ zoneAt s i 0 = omega arith in
         let below : i < 16 = omega arith in
         simp append-assoc
-        (taking-checks then NoHead done 1 s 1 (laneAt s i) 7 _ _ _ λ _ _.
-        taking-checks then NoHead done 1 s 4 (arrivalAt s i) 8 _ _ _ λ _ _.
+        (taking-checks then NoHead done 1 s 1 (inCart i (laneAt s i)) 7 _ _ _ λ _ _.
+        taking-checks then NoHead done 1 s 4 (inCart i (arrivalAt s i)) 8 _ _ _ λ _ _.
         rw second
-        (taking-checks then NoHead done 1 s 1 (stepCountAt s i) 9 _ _ _ λ _ k.
+        (taking-checks then NoHead done 1 s 1 (inCart i (stepCountAt s i)) 9 _ _ _ λ _ k.
         rw (
           third,
           table-next 16 (laneOf s) i (laneOf s i) _ below refl refl,
@@ -184,29 +180,29 @@ module _ (s : List ℕ) where
         then : Head → SheetRead
         then r =
             onHead r λ h c.
-            stepsFrom s i (h .steps) (h .steps) 0 (λ z. false) (putCart (atCart i) i h) c λ sh c′.
-            cartsFrom s n (i + 1) sh (set (spots i) i (h .place)) c′
+            stepsFrom s i (h .steps) (h .steps) 0 (λ z. false) (putCart (atCart i) i h) (c .at) λ sh at.
+            cartsFrom s n (i + 1) sh (set (spots i) i (h .place)) at
 
-        next : cartsFrom s n (i + 1) (atCart (i + 1)) (spots (i + 1)) (record { at = cartAt s (i + 1) }) ≡ first
+        next : cartsFrom s n (i + 1) (atCart (i + 1)) (spots (i + 1)) (cartAt s (i + 1)) ≡ first
             (each n (i + 1) (cartChecks s) ++ last) → cartsFrom s n (i + 1) (atStep i (stepCount s i)) (spots (i + 1))
-            (record { at = zoneAt s i (stepCount s i) }) ≡ first (each n (i + 1) (cartChecks s) ++ last)
-        next h = rw (← cart-next i, passed-cart s (zoneOf s) i, passed-cart s (passingOf s) i, passed-cart s (travelOf s) i) h
+            (zoneAt s i (stepCount s i)) ≡ first (each n (i + 1) (cartChecks s) ++ last)
+        next h = rw (← cart-next s i, passed-cart s (zoneOf s) i, passed-cart s (passingOf s) i, passed-cart s (travelOf s) i) h
 
   -- what follows the gaps
   abbrev carts : List Check
   carts =
-      field s (cartCountAt s) 1 6 isCartCount
+      field s (outside (cartCountAt s)) 1 6 isCartCount
       ++ (each (cartCount s) 0 (cartChecks s) ++ (check 13 (endAt s) (eqb (endAt s) (length s)) ∷ each (cartCount s) 0 (laneChecks s)))
 
-  count-agrees : countFrom s (soFar (zoneCount s) 0 0 0 0) (record { at = cartCountAt s }) ≡ first carts
+  count-agrees : countFrom s (soFar (zoneCount s) 0 0 0 0) (cartCountAt s) ≡ first carts
   unfolding countFrom cartAt
   count-agrees =
-      taking-checks (λ r. r) sheetRefused (sheetDone (sheetOf s)) 1 s 1 (cartCountAt s) 6 _ _ _ λ _ m.
-      ap (λ (spot : List ℕ). cartsFrom s (cartCount s) 0 (soFar (zoneCount s) (cartCount s) 0 0 0) spot (record { at = cartCountAt s + 1 }))
+      taking-checks (λ r. r) sheetRefused (sheetDone (sheetOf s)) 1 s 1 (outside (cartCountAt s)) 6 _ _ _ λ _ m.
+      ap (λ (spot : List ℕ). cartsFrom s (cartCount s) 0 (soFar (zoneCount s) (cartCount s) 0 0 0) spot (cartCountAt s + 1))
       (table-none 16 (arrivalAt s))
       ∙ carts-agree (leb-true (cartCount s) 16 m) (cartCount s) 0 (omega arith)
 
-  zones-agree : (n z : ℕ) → zoneCount s ≤ 24 → z + n ≡ zoneCount s → zonesFrom s n z (soFar z 0 0 0 0) (record { at = followAt z }) ≡ first
+  zones-agree : (n z : ℕ) → zoneCount s ≤ 24 → z + n ≡ zoneCount s → zonesFrom s n z (soFar z 0 0 0 0) (followAt z) ≡ first
       (each n z (zoneChecks s) ++ carts)
   unfolding zonesFrom each zoneChecks
   zones-agree zero z l e = let q : z ≡ zoneCount s = omega arith in rw q count-agrees
@@ -214,8 +210,8 @@ module _ (s : List ℕ) where
       let next : crossAt z + 2 ≡ followAt (z + 1) = omega arith in
       let below : z < 24 = omega arith in
       simp append-assoc
-      (taking-checks (λ r. r) sheetRefused (sheetDone (sheetOf s)) 1 s 2 (followAt z) 5 _ _ _ λ _ _.
-      taking-checks (λ r. r) sheetRefused (sheetDone (sheetOf s)) 1 s 2 (crossAt z) 5 _ _ _ λ _ _.
+      (taking-checks (λ r. r) sheetRefused (sheetDone (sheetOf s)) 1 s 2 (outside (followAt z)) 5 _ _ _ λ _ _.
+      taking-checks (λ r. r) sheetRefused (sheetDone (sheetOf s)) 1 s 2 (outside (crossAt z)) 5 _ _ _ λ _ _.
       rw (next, table-next 24 (followOf s) z (followOf s z) _ below refl refl, table-next 24 (crossOf s) z (crossOf s z) _ below refl refl)
       (zones-agree n (z + 1) l (omega arith)))
 
@@ -223,14 +219,14 @@ module _ (s : List ℕ) where
   unfolding scan openingBy readSheet sheetChecks
   scan-agrees =
       simp append-assoc
-      (taking-checks then Refused done 1 s 1 0 2 _ _ _ λ _ _.
-      taking-checks then Refused done 1 s 2 1 3 _ _ _ λ _ _.
-      taking-checks then Refused done 1 s 1 3 4 _ _ _ λ _ n.
-      ap (λ (sh : Sheet). zonesFrom s (zoneCount s) 0 sh (record { at = 4 })) (sym nothing-yet)
+      (taking-checks then Refused done 1 s 1 (outside 0) 2 _ _ _ λ _ _.
+      taking-checks then Refused done 1 s 2 (outside 1) 3 _ _ _ λ _ _.
+      taking-checks then Refused done 1 s 1 (outside 3) 4 _ _ _ λ _ n.
+      ap (λ (sh : Sheet). zonesFrom s (zoneCount s) 0 sh 4) (sym nothing-yet)
       ∙ zones-agree (zoneCount s) 0 (and-says _ _ (leb-says 1 (zoneCount s)) (leb-says (zoneCount s) 24) .0 n .1) (omega arith))
     where
       done : SheetRead
       done = sheetDone (sheetOf s)
 
       then : Opening → SheetRead
-      then r = onOpening sheetRefused r λ n c. zonesFrom s n 0 (withZones blank n) c
+      then r = onOpening sheetRefused r λ n c. zonesFrom s n 0 (withZones blank n) (c .at)

@@ -7,6 +7,7 @@ use borrow.Author.Tests.{le-leb}
 use Rattle.words.specs.declared.Outcome.{Outcome}
 use Rattle.words.specs.Limits.{mostTime}
 use Rattle.words.proofs.Left.{left-suc}
+use Rattle.fields.specs.Field.{outside}
 use Rattle.fields.specs.inner.Field.{fieldAt, taking}
 use Rattle.fields.specs.declared.Cursor.{Cursor}
 use Rattle.fields.specs.declared.Field.the-variants.{Value}
@@ -29,12 +30,12 @@ module _ (s : List ℕ) where
   unfolding scan
   begins-refused outcome e = sym (scan-agrees s) ∙ rw e
 
-  pub begins : (n : ℕ) (c : Cursor) (t : List ℕ) → openingAt s 1 1 24 ≡ Zones n c → t ≡ replicate 480 0 → readSheet s ≡ zonesFrom s n 0 (sheetIn n 0 t) c
+  pub begins : (n : ℕ) (c : Cursor) (t : List ℕ) → openingAt s 1 1 24 ≡ Zones n c → t ≡ replicate 480 0 → readSheet s ≡ zonesFrom s n 0 (sheetIn n 0 t) (c .at)
   unfolding scan
-  begins n c t e q = sym (scan-agrees s) ∙ rw (e, q) (ap (λ (sh : Sheet). zonesFrom s n 0 sh c) (blank-is n))
+  begins n c t e q = sym (scan-agrees s) ∙ rw (e, q) (ap (λ (sh : Sheet). zonesFrom s n 0 sh (c .at)) (blank-is n))
 
-  pub zones-next : (n z : ℕ) (sh put : Sheet) (c c2 c3 : Cursor) (follow cross : ℕ) → z < n → fieldAt s 2 (c .at) ≡ Value follow c2 → follow ≤
-      mostTime → fieldAt s 2 (c2 .at) ≡ Value cross c3 → cross ≤ mostTime → put ≡ withGaps sh z follow cross → zonesFrom s (n - z) z sh c ≡ zonesFrom
-      s (n - (z + 1)) (z + 1) put c3
+  pub zones-next : (n z : ℕ) (sh put : Sheet) (at : ℕ) (c c2 c3 : Cursor) (follow cross : ℕ) → z < n → c ≡ outside at → fieldAt s 2 c ≡ Value follow c2 →
+      follow ≤ mostTime → fieldAt s 2 c2 ≡ Value cross c3 → cross ≤ mostTime → put ≡ withGaps sh z follow cross → zonesFrom s (n - z) z sh at ≡ zonesFrom
+      s (n - (z + 1)) (z + 1) put (c3 .at)
   unfolding zonesFrom taking
-  zones-next n z sh put c c2 c3 follow cross l e h e2 h2 q = rw (left-suc n z l, e, le-leb _ _ h, e2, le-leb _ _ h2, q)
+  zones-next n z sh put at c c2 c3 follow cross l here e h e2 h2 q = rw (left-suc n z l, ← here, e, le-leb _ _ h, e2, le-leb _ _ h2, q)

@@ -1,7 +1,8 @@
 // The crossing sheet read into a table, in one pass; the table as a struct, at the door.
-use fields::Cursor;
 use fields::Field;
 use fields::one_byte;
+use fields::outside;
+use fields::refused_at;
 use fields::two_bytes;
 use opening::Opening;
 use opening::read_opening;
@@ -14,7 +15,6 @@ use sheet_table::Table;
 use words::MOST_TIME;
 use words::Outcome;
 use words::done;
-use words::refused;
 ghost use mathlib.Core.Path.{_≡_};
 ghost use Prim.Native.Nat.{_≤_};
 ghost use lib.ListN.{replicate};
@@ -45,45 +45,47 @@ fn no_counts(outcome: Outcome) -> Counts
 }
 
 // The gaps of n zones into a sheet that has no carts yet, and the cart count.
-fn read_counts(s: &[u8], c: Cursor, n: usize, sheet: &mut Table) -> Counts
+fn read_counts(s: &[u8], start: usize, n: usize, sheet: &mut Table) -> Counts
     requires { ⌜ n ≤ 24 ⌝ }
     ensures { λ r.
         ⌜ (r .zones ≤ 24) × (r .carts ≤ 16)
-        × Left sheetRefused (zonesFrom (now (s .entry)) n 0 (sheetIn n 0 (now (sheet .entry))) c)
+        × Left sheetRefused (zonesFrom (now (s .entry)) n 0 (sheetIn n 0 (now (sheet .entry))) start)
         (cartsFrom (now (s .entry)) (r .carts) 0 (sheetIn (r .zones) (r .carts) (now (sheet .exit))) (replicate 16 0)
-        (record { at = r .at })) (r .outcome) ⌝ }
+        (r .at)) (r .outcome) ⌝ }
 {
-    let mut at = c.at;
+    let mut at = start;
     let mut z = 0;
     while z < n {
-        let Field::Value(follow, c2) = two_bytes(s, Cursor { at }) else {
-            return no_counts(refused(1, at));
+        let c = outside(at);
+        let Field::Value(follow, c2) = two_bytes(s, c) else {
+            return no_counts(refused_at(1, c));
         };
         if MOST_TIME < follow {
-            return no_counts(refused(5, at));
+            return no_counts(refused_at(5, c));
         }
         let Field::Value(cross, c3) = two_bytes(s, c2) else {
-            return no_counts(refused(1, c2.at));
+            return no_counts(refused_at(1, c2));
         };
         if MOST_TIME < cross {
-            return no_counts(refused(5, c2.at));
+            return no_counts(refused_at(5, c2));
         }
         put_gaps(sheet, z, follow, cross);
         at = c3.at;
         z += 1;
     }
-    let Field::Value(m, c4) = one_byte(s, Cursor { at }) else {
-        return no_counts(refused(1, at));
+    let c = outside(at);
+    let Field::Value(m, c2) = one_byte(s, c) else {
+        return no_counts(refused_at(1, c));
     };
     if 16 < m {
-        return no_counts(refused(6, at));
+        return no_counts(refused_at(6, c));
     }
     let outcome = done();
     Counts {
         outcome,
         zones: n,
         carts: m as usize,
-        at: c4.at,
+        at: c2.at,
     }
 }
 
@@ -96,13 +98,12 @@ pub fn fill(s: &[u8], sheet: &mut Table) -> Counts
     match opening {
         Opening::Refused(outcome) => no_counts(outcome),
         Opening::Zones(n, c) => {
-            let mut counts = read_counts(s, c, n, sheet);
+            let mut counts = read_counts(s, c.at, n, sheet);
             let outcome = counts.outcome;
             if outcome.number != 0 {
                 return counts;
             }
-            let c2 = Cursor { at: counts.at };
-            counts.outcome = read_carts(s, c2, counts.zones, counts.carts, sheet);
+            counts.outcome = read_carts(s, counts.at, counts.zones, counts.carts, sheet);
             // All is read; a place before the end need not be kept meanwhile.
             counts.at = s.len();
             counts

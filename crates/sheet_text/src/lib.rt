@@ -20,6 +20,16 @@ pub fn put_refusal(outcome: Outcome) {
     put(b" at ", outcome.place as u64);
 }
 
+// The first line of what is refused: with the cart and the step, where the refusal stands inside a cart's part of the sheet.
+pub fn show_refusal(outcome: Outcome) {
+    put_refusal(outcome);
+    if outcome.cart != 0 {
+        put(b" cart ", outcome.cart as u64);
+        put(b" step ", outcome.step as u64);
+    }
+    end_line();
+}
+
 fn show_counts(zones: usize, carts: usize) {
     put(b"ok zones ", zones as u64);
     put(b" carts ", carts as u64);
@@ -88,8 +98,7 @@ pub fn show_sheet(s: &[u8]) {
     let read = sheet_reader::read_sheet(s);
     let outcome = read.outcome;
     if outcome.number != 0 {
-        put_refusal(outcome);
-        end_line();
+        show_refusal(outcome);
         return;
     }
     let sheet = read.sheet;

@@ -88,18 +88,38 @@ impl Ring {
     }
 }
 
-/// A number of document 01's table, and the place.
+/// A number of document 01's table, the place, and inside a cart's part of the sheet the cart.
 #[derive(Clone, Copy, Debug, PartialEq, Eq)]
 pub struct Refusal {
     /// 1 to 28.
     pub number: u32,
+    /// From 1 to 14 and inside a cart's part of the sheet, a cut there too, the cart's number plus one; else 0.
+    pub cart: u8,
+    /// Inside a step of that cart, the step's number plus one; else 0.
+    pub step: u8,
     /// The byte that the table tells, counted in the sheet for 1 to 14 and in the plan for 15 to 21, else 0.
     pub place: usize,
 }
 
+impl Refusal {
+    /// A refusal that has no place: 0, and no cart.
+    fn at_0(number: u32) -> Refusal {
+        Refusal {
+            number,
+            cart: 0,
+            step: 0,
+            place: 0,
+        }
+    }
+}
+
 impl fmt::Display for Refusal {
     fn fmt(&self, f: &mut fmt::Formatter<'_>) -> fmt::Result {
-        write!(f, "refused {} at {}", self.number, self.place)
+        write!(f, "refused {} at {}", self.number, self.place)?;
+        match self.cart {
+            0 => Ok(()),
+            cart => write!(f, " cart {} step {}", cart, self.step),
+        }
     }
 }
 
@@ -126,11 +146,7 @@ pub enum NotJudged {
 impl fmt::Display for NotJudged {
     fn fmt(&self, f: &mut fmt::Formatter<'_>) -> fmt::Result {
         match self {
-            NotJudged::Locked(_) => Refusal {
-                number: LOCKED,
-                place: 0,
-            }
-            .fmt(f),
+            NotJudged::Locked(_) => Refusal::at_0(LOCKED).fmt(f),
             NotJudged::Refused(refusal) => refusal.fmt(f),
         }
     }
@@ -178,11 +194,7 @@ pub enum NotMoved {
 impl fmt::Display for NotMoved {
     fn fmt(&self, f: &mut fmt::Formatter<'_>) -> fmt::Result {
         match self {
-            NotMoved::Held(_) => Refusal {
-                number: HELD,
-                place: 0,
-            }
-            .fmt(f),
+            NotMoved::Held(_) => Refusal::at_0(HELD).fmt(f),
             NotMoved::Refused(refusal) => refusal.fmt(f),
         }
     }
@@ -195,7 +207,17 @@ impl Error for NotMoved {}
 fn answered<T>(outcome: Outcome, answer: T) -> Result<T, Refusal> {
     match outcome {
         Outcome { number: 0, .. } => Ok(answer),
-        Outcome { number, place } => Err(Refusal { number, place }),
+        Outcome {
+            number,
+            cart,
+            step,
+            place,
+        } => Err(Refusal {
+            number,
+            cart,
+            step,
+            place,
+        }),
     }
 }
 

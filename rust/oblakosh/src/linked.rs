@@ -8,6 +8,8 @@ use std::mem::{offset_of, size_of};
 #[derive(Clone, Copy)]
 pub struct Outcome {
     pub number: u32,
+    pub cart: u8,
+    pub step: u8,
     pub place: usize,
 }
 
@@ -152,7 +154,7 @@ macro_rules! layout {
     };
 }
 
-layout!(Outcome 16: number 0 4, place 8 8);
+layout!(Outcome 16: number 0 4, cart 4 1, step 5 1, place 8 8);
 layout!(Sheet 848: zones 0 8, follow 8 48, cross 56 48, carts 104 8, lane 112 16, arrival 128 64, steps 192 16, zone 208 128,
     passing 336 256, travel 592 256);
 layout!(SheetRead 864: outcome 0 16, sheet 16 848);

@@ -8,6 +8,16 @@ const S: &[u8] = include_bytes!("../../../examples/S.sheet");
 const A: &[u8] = b"\x01\x00\x0A\x02\x02\x00\x01\x02\x00\x01";
 const B: &[u8] = b"\x01\x00\x0A\x02\x02\x00\x01\x02\x01\x00";
 
+/// A refusal that stands in no cart's part of the sheet.
+fn refusal(number: u32, place: usize) -> Refusal {
+    Refusal {
+        number,
+        cart: 0,
+        step: 0,
+        place,
+    }
+}
+
 #[test]
 fn a_plan_written_again_is_the_same_bytes() {
     for plan in [A, B] {
@@ -29,7 +39,7 @@ fn a_refusal_leaves_the_room_as_it_was() {
         let mut room = [0xA5; 12];
         assert_eq!(
             write_again(sheet, plan, &mut room[..length]),
-            Err(Refusal { number, place })
+            Err(refusal(number, place))
         );
         assert_eq!(room, [0xA5; 12]);
     }
@@ -61,7 +71,7 @@ fn a_sheet_that_is_refused_has_no_plan() {
             let mut room = [0xA5; 12];
             assert_eq!(
                 planner(sheet, &mut room[..length]),
-                Err(Refusal { number, place })
+                Err(refusal(number, place))
             );
             assert_eq!(room, [0xA5; 12]);
         }
@@ -78,21 +88,9 @@ fn a_list_is_the_very_part_of_the_plan_lent() {
 #[test]
 fn no_list_beyond_the_last_zone() {
     for zone in [2, 24, usize::MAX] {
-        assert_eq!(
-            passing_list(S, B, zone),
-            Err(Refusal {
-                number: 27,
-                place: 0
-            })
-        );
+        assert_eq!(passing_list(S, B, zone), Err(refusal(27, 0)));
     }
-    assert_eq!(
-        passing_list(S, &[], 2),
-        Err(Refusal {
-            number: 15,
-            place: 0
-        })
-    );
+    assert_eq!(passing_list(S, &[], 2), Err(refusal(15, 0)));
 }
 
 /// The record of two carts.
@@ -131,7 +129,7 @@ fn a_permitted_move_is_stored() {
 
 #[test]
 fn a_refused_request_leaves_the_record_as_it_was() {
-    let refused = |number| NotMoved::Refused(Refusal { number, place: 0 });
+    let refused = |number| NotMoved::Refused(refusal(number, 0));
     for (plan, lent, cart, expected) in [
         (B, Record::default(), 0, refused(22)),
         (A, record(1, 1, 2), 0, refused(23)),
@@ -154,10 +152,7 @@ fn a_lane_is_left_in_the_order_of_its_carts() {
         \0\0\0\0\0\x01\x01\x03\xE8\0\0";
     let plan = b"\x01\x00\x08\x02\x01\x00\x01\x01";
     let moved = |made| Ok(Moved { position: 1, made });
-    let unreached = NotMoved::Refused(Refusal {
-        number: 23,
-        place: 0,
-    });
+    let unreached = NotMoved::Refused(refusal(23, 0));
     for (lent, cart, expected, after) in [
         (record(0, 0, 0), 1, Err(NotMoved::Held(1)), record(0, 0, 0)),
         (record(0, 0, 0), 0, moved(1), record(1, 0, 1)),

@@ -51,7 +51,13 @@ fn damaged_bytes_leave_lent_memory_unchanged() {
                 assert_eq!(list.unwrap(), &orders.list[0][..orders.count[0] as usize]);
                 assert!(!matches!(judged, Err(NotJudged::Refused(_))));
                 let number = if judged.is_ok() { 23 } else { 22 };
-                assert_eq!(moved, Err(NotMoved::Refused(Refusal { number, place: 0 })));
+                let unreached = Refusal {
+                    number,
+                    cart: 0,
+                    step: 0,
+                    place: 0,
+                };
+                assert_eq!(moved, Err(NotMoved::Refused(unreached)));
             }
             Err(refusal) => {
                 assert!(matches!(refusal, Refusal { number: 1..=21, .. }));

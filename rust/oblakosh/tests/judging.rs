@@ -6,8 +6,14 @@ const A: &[u8] = b"\x01\x00\x0A\x02\x02\x00\x01\x02\x00\x01";
 const B: &[u8] = b"\x01\x00\x0A\x02\x02\x00\x01\x02\x01\x00";
 const UNTOUCHED: u32 = 0xA5A5_A5A5;
 
+/// A refusal that stands in no cart's part of the sheet.
 fn refusal(number: u32, place: usize) -> Refusal {
-    Refusal { number, place }
+    Refusal {
+        number,
+        cart: 0,
+        step: 0,
+        place,
+    }
 }
 
 /// S with another byte at a place.
@@ -80,7 +86,13 @@ fn the_largest_arrival_is_taken_and_no_larger_one() {
         read_sheet(&sheet).map(|sheet| sheet.arrival[1])
     };
     assert_eq!(arriving(3_600_000), Ok(3_600_000));
-    assert_eq!(arriving(3_600_001), Err(refusal(8, 30)));
+    assert_eq!(
+        arriving(3_600_001),
+        Err(Refusal {
+            cart: 2,
+            ..refusal(8, 30)
+        })
+    );
 }
 
 #[test]
@@ -151,6 +163,10 @@ fn judging_refuses_in_the_tables_order() {
 #[test]
 fn refusals_are_printed_as_document_01_prints_them() {
     assert_eq!(read_sheet(&[2]).unwrap_err().to_string(), "refused 2 at 0");
+    assert_eq!(
+        read_sheet(&changed(24, 2)).unwrap_err().to_string(),
+        "refused 10 at 24 cart 1 step 2"
+    );
     assert_eq!(
         judged_in(S, B, WORDS).0.unwrap_err().to_string(),
         "refused 22 at 0"

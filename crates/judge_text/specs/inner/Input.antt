@@ -4,6 +4,7 @@ use mathlib.Core.List.{List}
 use lib.ListN.{length}
 use lib.Dec.{leb}
 use Rattle.words.specs.Lists.{pick}
+use Rattle.fields.specs.Field.{outside}
 use Rattle.fields.specs.inner.Field.{fieldAt}
 use Rattle.fields.specs.declared.Field.{Field}
 use Rattle.fields.specs.declared.Field.the-variants.{Value, Cut}
@@ -14,4 +15,4 @@ lengthBy all (Value n next) = pick (leb n all) n all
 lengthBy all Cut = all
 
 unfoldable pub sheetLength : List ℕ → ℕ
-sheetLength input = lengthBy (length input) (fieldAt input 2 1)
+sheetLength input = lengthBy (length input) (fieldAt input 2 (outside 1))

@@ -5,6 +5,7 @@ use mathlib.Core.List.{List}
 use lib.ListN.{length}
 use lib.Dec.{leb, eqb}
 use Rattle.words.specs.declared.Outcome.{Outcome}
+use Rattle.fields.specs.Field.{outside}
 use Rattle.fields.specs.inner.Field.{taking}
 use Rattle.fields.specs.declared.Cursor.{Cursor}
 use Rattle.sheet.specs.Checks.{isOne}
@@ -17,7 +18,7 @@ isBetween least most n = leb least n && leb n most
 -- with a zone count that passes; the numbers of the checks follow each other from that of a cut field on
 unfoldable pub openingBy : List ℕ → ℕ → (ℕ → Bool) → Opening
 openingBy s first passes =
-    taking Refused first s 1 (record { at = 0 }) (first + 1) isOne λ version c.
+    taking Refused first s 1 (outside 0) (first + 1) isOne λ version c.
     taking Refused first s 2 c (first + 2) (λ total. eqb total (length s)) λ total c2.
     taking Refused first s 1 c2 (first + 3) passes λ n c3.
     Zones n c3

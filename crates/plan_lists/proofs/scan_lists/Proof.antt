@@ -15,22 +15,22 @@ use Rattle.plan_lists.proofs.scan_lists.Statement.{statement}
 use Rattle.plan_lists.proofs.scan_lists.Tie as tie
 
 abbrev Inv-loop : tie.InvT-loop
-Inv-loop p n who lead count list₀ before₀ late₀ at₀ outcome₀ z visitors k seen₀ e₀ list before late at outcome seen e =
+Inv-loop p start n who lead count list₀ before₀ late₀ at₀ outcome₀ z visitors k seen₀ e₀ list before late at outcome seen e =
     (e ≤ k) × (outcome ≡ done) × (cartsFrom p visitors lead z k 0 0 (record { count = count; list = list₀; before = before₀; late = late₀ })
-    (record { at = at₀ }) (listsFrom p who lead (n - (z + 1)) (z + 1)) ≡ cartsFrom p visitors lead z (k - e) e seen
-    (record { count = count; list = list; before = before; late = late }) (record { at = at }) (listsFrom p who lead (n - (z + 1)) (z + 1)))
+    at₀ (listsFrom p who lead (n - (z + 1)) (z + 1)) ≡ cartsFrom p visitors lead z (k - e) e seen
+    (record { count = count; list = list; before = before; late = late }) at (listsFrom p who lead (n - (z + 1)) (z + 1)))
 
 abbrev μ-loop : tie.MeasureT-loop
-μ-loop p n who lead count list₀ before₀ late₀ at₀ outcome₀ z visitors k seen₀ e₀ list before late at outcome seen e =
+μ-loop p start n who lead count list₀ before₀ late₀ at₀ outcome₀ z visitors k seen₀ e₀ list before late at outcome seen e =
     k - e
 
 abbrev Inv-scan : tie.InvT-scan
-Inv-scan p n who lead count₀ list₀ before₀ late₀ at₀ outcome₀ z₀ count list before late at outcome z =
-    (z ≤ n) × (outcome ≡ done) × (listsFrom p who lead n 0 noLists (record { at = at₀ }) ≡ listsFrom p who lead (n - z) z
-    (record { count = count; list = list; before = before; late = late }) (record { at = at }))
+Inv-scan p start n who lead count₀ list₀ before₀ late₀ at₀ outcome₀ z₀ count list before late at outcome z =
+    (z ≤ n) × (outcome ≡ done) × (listsFrom p who lead n 0 noLists at₀ ≡ listsFrom p who lead (n - z) z
+    (record { count = count; list = list; before = before; late = late }) at)
 
 abbrev μ-scan : tie.MeasureT-scan
-μ-scan p n who lead count₀ list₀ before₀ late₀ at₀ outcome₀ z₀ count list before late at outcome z =
+μ-scan p start n who lead count₀ list₀ before₀ late₀ at₀ outcome₀ z₀ count list before late at outcome z =
     n - z
 
 done-requires : tie.Need-done-requires Inv-loop μ-loop Inv-scan μ-scan

@@ -9,7 +9,6 @@ use Rattle.words.specs.Lists.{pick, entries}
 use Rattle.words.specs.Checks.{refused}
 use Rattle.words.specs.inner.Checks.{Left}
 use Rattle.words.specs.declared.Outcome.{Outcome}
-use Rattle.fields.specs.declared.Cursor.{Cursor}
 use Rattle.sheet.specs.declared.Sheet.{Sheet}
 use Rattle.opening.specs.inner.Opening.{openingAt, onOpening}
 use Rattle.plan.specs.Reading.{noOrders, planRefused, planDone, readPlan}
@@ -63,25 +62,25 @@ abbrev pub ordersOf : List ℕ → List ℕ → Lists → Orders
 ordersOf steps zone l = ordersIn (l .count) (l .list) (aheadOf steps zone (l .before))
 
 -- how the scan of the lists ends: with the lists, to go on with, or with the refusal
-abbrev pub onScanned : Scanned → (Lists → Cursor → PlanScanned) → PlanScanned
-onScanned (Read l c) go = go l c
+abbrev pub onScanned : Scanned → (Lists → ℕ → PlanScanned) → PlanScanned
+onScanned (Read l at) go = go l at
 onScanned (Broken outcome) go = Refuses outcome
 
 -- after all lists: 20, then 21
-unfoldable pub finish : List ℕ → List ℕ → List ℕ → Lists → Cursor → PlanScanned
-finish p steps zone l c =
-    pick (eqb (c .at) (length p))
+unfoldable pub finish : List ℕ → List ℕ → List ℕ → Lists → ℕ → PlanScanned
+finish p steps zone l at =
+    pick (eqb at (length p))
     (pick (eqb (l .late) 0) (Done (ordersOf steps zone l)) (Refuses (refused 21 (l .late))))
-    (Refuses (refused 20 (c .at)))
+    (Refuses (refused 20 at))
 
 module _ (p : List ℕ) (zones : ℕ) (steps zone lane : List ℕ) where
   -- the lists, and what follows them
-  unfoldable pub fromLists : Cursor → PlanScanned
-  fromLists c = onScanned (listsFrom p (whoVisits steps zone) (mayLead lane) zones 0 noLists c) (finish p steps zone)
+  unfoldable pub fromLists : ℕ → PlanScanned
+  fromLists at = onScanned (listsFrom p (whoVisits steps zone) (mayLead lane) zones 0 noLists at) (finish p steps zone)
 
   -- the whole pass: version, length, zone count, lists
   unfoldable pub scan : PlanScanned
-  scan = onOpening Refuses (openingAt p 15 zones zones) λ n c. fromLists c
+  scan = onOpening Refuses (openingAt p 15 zones zones) λ n c. fromLists (c .at)
 
 -- the whole pass over a plan for a sheet
 abbrev pub sheetScan : List ℕ → Sheet → PlanScanned

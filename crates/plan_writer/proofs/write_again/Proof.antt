@@ -1,6 +1,6 @@
 -- Each way out is what reading the plan and the room's length say.
 use Prim.Native.Nat.{ℕ, _+_}
-use mathlib.Core.Path.{ap, _∙_}
+use mathlib.Core.Path.{sym, ap, _∙_}
 use native.Mathlib.Omega.{arith}
 use Rattle.plan_writer.proofs.AgainLaws.{again-refused, again-steps, again-zones, again-length, again-short, again-writable, again-done}
 use borrow.Author.Needs.{needs}
@@ -25,7 +25,10 @@ add-total c = omega (
 )
 
 slice-aggregate-sum-of : tie.Need-slice-aggregate-sum-of
-slice-aggregate-sum-of c = search needs
+slice-aggregate-sum-of c = sym
+    (again-steps _ _ (c .before .before .before .before .before .before .read-plan .result)
+    (c .before .before .before .before .before .before .read-plan .ensures)
+    (c .before .before .before .if1 .left))
 
 sum-of-requires : tie.Need-sum-of-requires
 sum-of-requires c κs = (
@@ -59,13 +62,30 @@ returns-2 c = let h = again-short _ _ (c .before .before .before .before .before
     (c .before .before .if2 .taken) in (c .not-written2 .ensures ∙ rw (c .before .refused .ensures) (h .0), h .1)
 
 write-plan-requires : tie.Need-write-plan-requires
-write-plan-requires c κs = (again-writable _ _ (c .before .before .before .before .before .before .before .before .before .before .before .before .before .before .read-plan .result) (c .before .before .before .before .before .before .before .before .before .before .before .before .before .before .read-plan .ensures) _ (ap (λ (sum : ℕ). 4 + c .before .before .before .before .before .before .before .before .before .before .before .before .before .before .read-plan .result .sheet .zones + sum) (c .before .before .before .before .before .before .before .sum-of .ensures .0)) (c .before .before .before .before .before .before .before .before .before .before .before .if1 .left) _ (c .before .before .before .before .before .before .if2 .left), again-length _ _ (c .before .before .before .before .before .before .before .before .before .before .before .before .before .before .read-plan .result) (c .before .before .before .before .before .before .before .before .before .before .before .before .before .before .read-plan .ensures) _ (ap (λ (sum : ℕ). 4 + c .before .before .before .before .before .before .before .before .before .before .before .before .before .before .read-plan .result .sheet .zones + sum) (c .before .before .before .before .before .before .before .sum-of .ensures .0)) (c .before .before .before .before .before .before .before .before .before .before .before .if1 .left))
+write-plan-requires c κs = (
+  again-writable _ _
+      (c .before .before .before .before .before .before .before .before .before .before .before .before .before .before .read-plan .result)
+      (c .before .before .before .before .before .before .before .before .before .before .before .before .before .before .read-plan .ensures) _ (ap (λ
+      (sum : ℕ). 4 +
+      c .before .before .before .before .before .before .before .before .before .before .before .before .before .before .read-plan .result .sheet .zones +
+      sum) (c .before .before .before .before .before .before .before .sum-of .ensures .0))
+      (c .before .before .before .before .before .before .before .before .before .before .before .if1 .left) _
+      (c .before .before .before .before .before .before .if2 .left),
+  again-length _ _
+      (c .before .before .before .before .before .before .before .before .before .before .before .before .before .before .read-plan .result)
+      (c .before .before .before .before .before .before .before .before .before .before .before .before .before .before .read-plan .ensures) _ (ap (λ
+      (sum : ℕ). 4 +
+      c .before .before .before .before .before .before .before .before .before .before .before .before .before .before .read-plan .result .sheet .zones +
+      sum) (c .before .before .before .before .before .before .before .sum-of .ensures .0))
+      (c .before .before .before .before .before .before .before .before .before .before .before .if1 .left),
+)
 
 same-length : tie.Need-same-length
 same-length c = search needs
 
 returns-3 : tie.Need-returns-3
-returns-3 c = again-done _ _ (c .before .before .before .before .before .before .before .before .before .before .before .before .before .before .before .before .before .read-plan .result) (c .before .before .before .before .before .before .before .before .before .before .before .before .before .before .before .before .before .read-plan .ensures) _ (ap (λ (sum : ℕ). 4 + c .before .before .before .before .before .before .before .before .before .before .before .before .before .before .before .before .before .read-plan .result .sheet .zones + sum) (c .before .before .before .before .before .before .before .before .before .before .sum-of .ensures .0)) (c .before .before .before .before .before .before .before .before .before .before .before .before .before .before .if1 .left) _ (c .before .before .before .before .before .before .before .before .before .if2 .left) _ (c .before .before .write-plan .ensures)
+returns-3 c = again-done _ _
+    (c .before .before .before .before .before .before .before .before .before .before .before .before .before .before .before .before .before .read-plan .result) (c .before .before .before .before .before .before .before .before .before .before .before .before .before .before .before .before .before .read-plan .ensures) _ (ap (λ (sum : ℕ). 4 + c .before .before .before .before .before .before .before .before .before .before .before .before .before .before .before .before .before .read-plan .result .sheet .zones + sum) (c .before .before .before .before .before .before .before .before .before .before .sum-of .ensures .0)) (c .before .before .before .before .before .before .before .before .before .before .before .before .before .before .if1 .left) _ (c .before .before .before .before .before .before .before .before .before .if2 .left) _ (c .before .before .write-plan .ensures)
 
 pub write-again-spec : {M : Type 1} → statement M
 write-again-spec =

@@ -4,8 +4,7 @@ use mathlib.Core.Bool.{Bool}
 use mathlib.Core.List.{List}
 use lib.Dec.{leb, ltb}
 use Rattle.words.specs.Lists.{pick}
-use Rattle.words.specs.Checks.{refused}
-use Rattle.fields.specs.inner.Field.{taking}
+use Rattle.fields.specs.inner.Field.{refusedAt, taking}
 use Rattle.fields.specs.declared.Cursor.{Cursor}
 use Rattle.sheet.specs.Checks.{isLane, isArrival, isStepCount, isPassing, mostTravel}
 use Rattle.sheet_cart.specs.declared.Head.{Head}
@@ -25,7 +24,7 @@ headAt s c =
 unfoldable pub stepAt : List ℕ → ℕ → (ℕ → Bool) → ℕ → ℕ → Cursor → Step
 stepAt s n named j k c =
     taking NoStep 1 s 1 c 10 (λ z. ltb z n) λ z c2.
-    pick (named z) (NoStep (refused 11 (c .at)))
+    pick (named z) (NoStep (refusedAt 11 c))
     (taking NoStep 1 s 2 c2 12 isPassing λ p c3.
     taking NoStep 1 s 2 c3 12 (λ t. leb t (mostTravel j k)) λ t c4.
     GotStep z p t c4)

@@ -13,10 +13,10 @@ use Rattle.sheet_carts.proofs.finished.Statement.{statement}
 use Rattle.sheet_carts.proofs.finished.Tie as tie
 
 abbrev Inv-loop : tie.InvT-loop
-Inv-loop s m sheet spot i₀ i = (i ≤ m) × ((n : ℕ) → lanesFrom (sheetIn n m sheet) spot m 0 ≡ lanesFrom (sheetIn n m sheet) spot (m - i) i)
+Inv-loop s at m sheet spot i₀ i = (i ≤ m) × ((n : ℕ) → lanesFrom (sheetIn n m sheet) spot m 0 ≡ lanesFrom (sheetIn n m sheet) spot (m - i) i)
 
 abbrev μ-loop : tie.MeasureT-loop
-μ-loop s m sheet spot i₀ i = m - i
+μ-loop s at m sheet spot i₀ i = m - i
 
 refused-requires : tie.Need-refused-requires Inv-loop μ-loop
 refused-requires c κs = search needs
@@ -30,21 +30,24 @@ loop-holds c = (omega arith, λ n. rw left-all)
 is-early-requires : tie.Need-is-early-requires Inv-loop μ-loop
 is-early-requires c κs = search needs
 
-mul-refused : tie.Need-mul-refused Inv-loop μ-loop
-mul-refused c = search needs
+mul-in-cart : tie.Need-mul-in-cart Inv-loop μ-loop
+mul-in-cart c = search needs
 
-element-copy-out-refused : tie.Need-element-copy-out-refused Inv-loop μ-loop
-element-copy-out-refused c = search needs
+element-copy-out-in-cart : tie.Need-element-copy-out-in-cart Inv-loop μ-loop
+element-copy-out-in-cart c = search needs
 
-refused-requires-2 : tie.Need-refused-requires-2 Inv-loop μ-loop
-refused-requires-2 c κs = search needs
+in-cart-requires : tie.Need-in-cart-requires Inv-loop μ-loop
+in-cart-requires c κs = search needs
+
+refused-at-requires : tie.Need-refused-at-requires Inv-loop μ-loop
+refused-at-requires c κs = search needs
 
 returns-2 : tie.Need-returns-2 Inv-loop μ-loop
-returns-2 c = λ n. rw (c .refused2 .ensures) (inr (
+returns-2 c = λ n. rw (c .refused-at .ensures, c .before .in-cart .ensures) (inr (
   lit< tt,
-  finish-lanes _ _ _ _ (c .before .before .before .before .before .before .if1 .left) ∙
-      c .before .before .before .before .before .loop .inv .1 n ∙ lanes-refused _ _ _ _ (c .before .before .before .before .loop-test .taken)
-      (sym (c .before .before .before .is-early .ensures) ∙ c .before .before .if2 .taken),
+  finish-lanes _ _ _ _ (c .before .before .before .before .before .before .before .if1 .left) ∙
+      c .before .before .before .before .before .before .loop .inv .1 n ∙ lanes-refused _ _ _ _ (c .before .before .before .before .before .loop-test .taken)
+      (sym (c .before .before .before .before .is-early .ensures) ∙ c .before .before .before .if2 .taken),
 ))
 
 add-i : tie.Need-add-i Inv-loop μ-loop
@@ -80,9 +83,10 @@ finished-spec =
     returns
     loop-holds
     is-early-requires
-    mul-refused
-    element-copy-out-refused
-    refused-requires-2
+    mul-in-cart
+    element-copy-out-in-cart
+    in-cart-requires
+    refused-at-requires
     returns-2
     add-i
     loop-less

@@ -1,4 +1,4 @@
--- The carts of a sheet and what follows them, as one pass meets them. Each definition is the rest of the work from a cursor on.
+-- The carts of a sheet and what follows them, as one pass meets them. Each definition is the rest of the work from a place on.
 use Prim.Native.Nat.{ℕ, zero, suc, _+_, _*_}
 use mathlib.Core.Bool.{Bool, false, _&&_, _||_}
 use mathlib.Core.List.{List}
@@ -6,6 +6,8 @@ use lib.ListN.{length, getD, set}
 use lib.Dec.{ltb, eqb}
 use Rattle.words.specs.Lists.{pick, anyBelow}
 use Rattle.words.specs.Checks.{refused}
+use Rattle.fields.specs.Field.{inCart, inStep}
+use Rattle.fields.specs.inner.Field.{refusedAt}
 use Rattle.fields.specs.declared.Cursor.{Cursor}
 use Rattle.sheet.specs.Reading.{sheetRefused, sheetDone}
 use Rattle.sheet.specs.declared.Sheet.{Sheet}
@@ -34,12 +36,11 @@ early lane arrival i =
 unfoldable pub lanesFrom : Sheet → List ℕ → ℕ → ℕ → SheetRead
 lanesFrom sh spot zero i = sheetDone sh
 lanesFrom sh spot (suc n) i =
-    pick (early (sh .lane) (sh .arrival) i) (sheetRefused (refused 14 (getD spot i 0))) (lanesFrom sh spot n (i + 1))
+    pick (early (sh .lane) (sh .arrival) i) (sheetRefused (refusedAt 14 (inCart i (getD spot i 0)))) (lanesFrom sh spot n (i + 1))
 
 -- after all fields: 13, then 14
-unfoldable pub finish : List ℕ → Sheet → List ℕ → Cursor → SheetRead
-finish s sh spot c =
-    pick (eqb (c .at) (length s)) (lanesFrom sh spot (sh .carts) 0) (sheetRefused (refused 13 (c .at)))
+unfoldable pub finish : List ℕ → Sheet → List ℕ → ℕ → SheetRead
+finish s sh spot at = pick (eqb at (length s)) (lanesFrom sh spot (sh .carts) 0) (sheetRefused (refused 13 at))
 
 -- what each case of the answers Step and Head says: the values and the next cursor, to go on with, or the refusal
 abbrev pub onStep : Step → (ℕ → ℕ → ℕ → Cursor → SheetRead) → SheetRead
@@ -51,16 +52,16 @@ onHead (GotHead h next) go = go h next
 onHead (NoHead outcome) go = sheetRefused outcome
 
 -- n steps from j on, of the k that cart i has, where those before name the zones that pass the test; then on
-unfoldable pub stepsFrom : List ℕ → ℕ → ℕ → ℕ → ℕ → (ℕ → Bool) → Sheet → Cursor → (Sheet → Cursor → SheetRead) → SheetRead
-stepsFrom s i k zero j named sh c go = go sh c
-stepsFrom s i k (suc n) j named sh c go =
-    onStep (stepAt s (sh .zones) named j k c) λ zone passing travel next.
-    stepsFrom s i k n (j + 1) (λ z. named z || eqb z zone) (withStep sh (8 * i + j) zone passing travel) next go
+unfoldable pub stepsFrom : List ℕ → ℕ → ℕ → ℕ → ℕ → (ℕ → Bool) → Sheet → ℕ → (Sheet → ℕ → SheetRead) → SheetRead
+stepsFrom s i k zero j named sh at go = go sh at
+stepsFrom s i k (suc n) j named sh at go =
+    onStep (stepAt s (sh .zones) named j k (inStep i j at)) λ zone passing travel next.
+    stepsFrom s i k n (j + 1) (λ z. named z || eqb z zone) (withStep sh (8 * i + j) zone passing travel) (next .at) go
 
 -- n carts from i on, with the places of the arrivals so far; then what follows the carts
-unfoldable pub cartsFrom : List ℕ → ℕ → ℕ → Sheet → List ℕ → Cursor → SheetRead
-cartsFrom s zero i sh spot c = finish s sh spot c
-cartsFrom s (suc n) i sh spot c =
-    onHead (headAt s c) λ h next.
-    stepsFrom s i (h .steps) (h .steps) 0 (λ z. false) (putCart sh i h) next λ sh′ c′.
-    cartsFrom s n (i + 1) sh′ (set spot i (h .place)) c′
+unfoldable pub cartsFrom : List ℕ → ℕ → ℕ → Sheet → List ℕ → ℕ → SheetRead
+cartsFrom s zero i sh spot at = finish s sh spot at
+cartsFrom s (suc n) i sh spot at =
+    onHead (headAt s (inCart i at)) λ h next.
+    stepsFrom s i (h .steps) (h .steps) 0 (λ z. false) (putCart sh i h) (next .at) λ sh′ at′.
+    cartsFrom s n (i + 1) sh′ (set spot i (h .place)) at′

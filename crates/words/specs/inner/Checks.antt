@@ -1,11 +1,15 @@
 -- What is kept while checks are made one by one.
-use Prim.Native.Nat.{_<_}
+use Prim.Native.Nat.{ℕ, _<_}
 use mathlib.Core.Path.{_≡_}
 use mathlib.Core.List.{List}
 use mathlib.Core.Logic.{_⊎_}
 use Rattle.words.specs.Lists.{All}
 use Rattle.words.specs.declared.Outcome.{Outcome}
 use Rattle.words.specs.Checks.{Check, done}
+
+-- the outcome with another cart and step
+abbrev pub named : Outcome → ℕ → ℕ → Outcome
+named o cart step = record { number = o .number; cart = cart; step = step; place = o .place }
 
 -- no check has the number of 'done'
 abbrev pub Numbered : List Check → Type 0

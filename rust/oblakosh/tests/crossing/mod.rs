@@ -21,7 +21,12 @@ pub fn shuffled(numbers: &mut Numbers, count: usize) -> Vec<usize> {
 }
 
 pub fn refused(number: u32) -> Result<Moved, NotMoved> {
-    Err(NotMoved::Refused(Refusal { number, place: 0 }))
+    Err(NotMoved::Refused(Refusal {
+        number,
+        cart: 0,
+        step: 0,
+        place: 0,
+    }))
 }
 
 /// The bytes with their length in bytes 1 and 2.

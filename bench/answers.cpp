@@ -12,7 +12,8 @@ constexpr unsigned inputs_of_a_size = 500, requests_of_an_input = 4, plans_of_a_
 
 // How often each number of document 01's table was answered, by both.
 struct Answered {
-  std::map<unsigned, unsigned> readings, verdicts, requests, plans;
+  std::map<unsigned, unsigned> readings, verdicts, requests, chains, plans;
+  std::map<std::size_t, unsigned> lengths;  // of the chains
 };
 
 template <class A, class B>
@@ -80,6 +81,17 @@ bool same_request(const Input& input, Answered& answered) {
   return same_asked(proved.asked, by_hand.asked) && same_table(proved.record, by_hand.record);
 }
 
+bool same_chain(const Input& input, Answered& answered) {
+  proved_why(input);
+  yardstick_why(input);
+  const oblakosh_chain& a = proved.chain;
+  const yardstick::Chain& b = by_hand.chain;
+  ++answered.chains[b.outcome.number];
+  if (b.outcome.number == 0) ++answered.lengths[b.length];
+  return same_outcome(a.outcome, b.outcome) && a.length == b.length && same_table(a.cart, b.cart) && same_table(a.zone, b.zone) &&
+         a.out == b.out;
+}
+
 bool same_plan(const Input& input, Call by_proved, Call by_yardstick, Answered& answered) {
   std::memset(proved.room, 0xee, sizeof proved.room);
   std::memset(by_hand.room, 0xee, sizeof by_hand.room);
@@ -96,14 +108,18 @@ std::string differs(const Input& input, unsigned number, Answered& answered) {
   if (!same_core(input)) return "the judge's core";
   if (!same_verdict(input, answered)) return "judging";
   if (!same_request(input, answered)) return "moving";
+  if (!same_chain(input, answered)) return "why";
   if (!same_plan(input, proved_first, yardstick_first, answered)) return "first come";
   if (number < plans_of_a_size && !same_plan(input, proved_plan, yardstick_plan, answered)) return "planning";
   for (unsigned k = 0; k < requests_of_an_input; ++k) {
-    if (!same_request(asked_otherwise(input, requests_of_an_input * number + k), answered)) return "moving";
+    const Input other = asked_otherwise(input, requests_of_an_input * number + k);
+    if (!same_request(other, answered)) return "moving";
+    if (!same_chain(other, answered)) return "why";
     const Input bad = spoiled(input, requests_of_an_input * number + k);
     if (!same_reading(bad, answered)) return "reading spoiled bytes";
     if (!same_verdict(bad, answered)) return "judging spoiled bytes";
     if (!same_request(bad, answered)) return "moving under spoiled bytes";
+    if (!same_chain(bad, answered)) return "why under spoiled bytes";
   }
   return "";
 }
@@ -120,6 +136,9 @@ bool every_kind(Answered& answered) {
     if (answered.readings[number] == 0) return false;
   for (unsigned number = 22; number <= 26; ++number)
     if (answered.requests[number] == 0) return false;
+  for (unsigned number = 22; number <= 25; ++number)
+    if (answered.chains[number] == 0) return false;
+  if (answered.lengths[1] == 0 || answered.lengths[2] == 0 || answered.lengths[3] == 0) return false;
   return answered.verdicts[0] != 0 && answered.verdicts[22] != 0 && answered.requests[0] != 0 && answered.plans[0] != 0;
 }
 
@@ -132,6 +151,8 @@ int report(Answered& answered) {
   std::printf("  %7u requests: %u permitted, %u held, %u of a cart out, %u of no cart, ", all(answered.requests), answered.requests[0],
               answered.requests[26], answered.requests[25], answered.requests[24]);
   std::printf("%u on a record that no run reaches, %u under a locked plan\n", answered.requests[23], answered.requests[22]);
+  std::printf("  %7u questions why: %u chains, the longest of %zu carts\n", all(answered.chains), answered.chains[0],
+              answered.lengths.rbegin()->first);
   std::printf("  %7u plans\n", all(answered.plans));
   if (every_kind(answered)) return 0;
   std::printf("a kind of answer did not come up: the comparison is too small\n");

@@ -58,6 +58,12 @@ MEASURED proved_move(const Input& input) {
   new (&proved.asked) oblakosh_asked(oblakosh_move_cart(s, s_length, p, p_length, &proved.record, input.cart));
 }
 
+MEASURED proved_why(const Input& input) {
+  const auto [s, s_length] = sheet_of(input);
+  const auto [p, p_length] = plan_of(input);
+  new (&proved.chain) oblakosh_chain(oblakosh_why(s, s_length, p, p_length, input.record, input.cart));
+}
+
 MEASURED proved_plan(const Input& input) {
   const auto [s, s_length] = sheet_of(input);
   new (&proved.planned) oblakosh_planned(oblakosh_plan(s, s_length, proved.room, OBLAKOSH_PLAN));
@@ -87,6 +93,11 @@ MEASURED yardstick_judge(const Input& input) {
 MEASURED yardstick_move(const Input& input) {
   std::memcpy(&by_hand.record, &input.record, sizeof by_hand.record);
   new (&by_hand.asked) yardstick::Asked(yardstick::move_cart(sheet_of(input), plan_of(input), by_hand.record, input.cart));
+}
+
+MEASURED yardstick_why(const Input& input) {
+  std::memcpy(&by_hand.record, &input.record, sizeof by_hand.record);
+  new (&by_hand.chain) yardstick::Chain(yardstick::why(sheet_of(input), plan_of(input), by_hand.record, input.cart));
 }
 
 MEASURED yardstick_plan(const Input& input) {

@@ -12,6 +12,7 @@ struct Proved {
   std::uint32_t words[OBLAKOSH_WORDS];
   oblakosh_asked asked;
   oblakosh_record record;
+  oblakosh_chain chain;
   oblakosh_planned planned;
   std::uint8_t room[OBLAKOSH_PLAN];
 };
@@ -28,6 +29,7 @@ struct ByHand {
   std::uint32_t words[OBLAKOSH_WORDS];
   yardstick::Asked asked;
   yardstick::Record record;
+  yardstick::Chain chain;
   yardstick::Planned planned;
   std::uint8_t room[OBLAKOSH_PLAN];
 };
@@ -47,6 +49,7 @@ void proved_core(const Input&);
 void proved_judge(const Input&);
 void proved_ask(const Input&);
 void proved_move(const Input&);
+void proved_why(const Input&);
 void proved_plan(const Input&);
 void proved_first(const Input&);
 void yardstick_read_sheet(const Input&);
@@ -54,6 +57,7 @@ void yardstick_read_plan(const Input&);
 void yardstick_core(const Input&);
 void yardstick_judge(const Input&);
 void yardstick_move(const Input&);
+void yardstick_why(const Input&);
 void yardstick_plan(const Input&);
 void yardstick_first(const Input&);
 }

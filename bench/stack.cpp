@@ -73,5 +73,6 @@ int measure_stack() {
   print("plan", proved_plan, yardstick_plan, accepted);
   print("ask", proved_ask, nullptr, accepted);
   print("move", proved_move, yardstick_move, accepted);
+  print("why", proved_why, yardstick_why, accepted);
   return 0;
 }

@@ -1,5 +1,5 @@
 """Lays out what `bench count` and `bench clock` measured: a table a series, with a column for each operation; first the proved
-code's figures, then the yardstick's, then their ratio.
+code's figures, then the yardstick's, then their ratio. A column `why : move` has the ratio of the two by the same maker.
   tables.py count DUMPS PHASES   callgrind's dumps, one for each line of the phases that `bench count` printed
   tables.py clock TIMES          the lines that `bench clock` printed"""
 import re
@@ -12,6 +12,18 @@ TITLES = {
     'clock': 'Clock: nanoseconds of a call (processor time, the median), on this machine as it is loaded now',
 }
 GROWTH = ('carts', 'zones')
+SHARES = {'why': 'move'}  # an operation, and the one that it is laid beside
+
+
+def put(table, size, maker, operation, figure):
+    """Puts a figure into a table, and beside it the ratio to another operation's, if it has one."""
+    table[size, maker, operation] = figure
+    if operation in SHARES:
+        table[size, maker, f'{operation} : {SHARES[operation]}'] = quotient(figure, table[size, maker, SHARES[operation]])
+
+
+def is_share(operation):
+    return ' : ' in operation
 
 
 def counted(dumps, phases):
@@ -21,7 +33,7 @@ def counted(dumps, phases):
         series, size, maker, operation, calls, turns = line.rstrip('\n').split('\t')
         total = int(re.search(r'^totals: (\d+)', open(f'{dumps}.{number}').read(), re.M).group(1))
         table = figures.setdefault(series, {})
-        table[size, maker, operation] = total / int(calls)
+        put(table, size, maker, operation, total / int(calls))
         if int(turns):
             table[size, maker, 'a turn'] = total / int(turns)
     return figures
@@ -31,7 +43,7 @@ def timed(times):
     figures = {}
     for line in open(times):
         series, size, maker, operation, nanoseconds = line.rstrip('\n').split('\t')
-        figures.setdefault(series, {})[size, maker, operation] = float(nanoseconds)
+        put(figures.setdefault(series, {}), size, maker, operation, float(nanoseconds))
     return figures
 
 
@@ -41,12 +53,16 @@ def quotient(above, below):
 
 def add_ratios(table):
     for size, maker, operation in list(table):
-        if maker == 'proved':
+        if maker == 'proved' and not is_share(operation):
             table[size, 'ratio', operation] = quotient(table[size, maker, operation], table[size, 'yardstick', operation])
 
 
-def print_row(name, cells, form):
-    print(name + ''.join(f"{form.format(cell) if cell else '':>12}" for cell in cells))
+def print_row(name, cells):
+    print(name + ''.join(f'{cell:>12}' for cell in cells))
+
+
+def shown(figure, form):
+    return form.format(figure) if figure else ''
 
 
 def print_table(series, table):
@@ -55,14 +71,16 @@ def print_table(series, table):
     operations = list(dict.fromkeys(operation for _, _, operation in table))
     width = max(9, *map(len, sizes))
     print(f'\n{TITLES[series]}')
-    print_row(f"{'':11}{series if series in GROWTH else '':{width}}", operations, '{}')
+    print_row(f"{'':11}{series if series in GROWTH else '':{width}}", operations)
     for maker in ('proved', 'yardstick', 'ratio'):
         for size in sizes:
             name = f"{maker if size == sizes[0] else '':11}{size:{width}}"
-            print_row(name, [table.get((size, maker, operation)) for operation in operations], '{:.2f}' if maker == 'ratio' else '{:,.0f}')
+            print_row(name, [shown(table.get((size, maker, operation)), '{:.2f}' if maker == 'ratio' or is_share(operation) else '{:,.0f}')
+                             for operation in operations])
         if series in GROWTH and maker != 'ratio':
-            first, last = ([table.get((size, maker, operation)) for operation in operations] for size in (sizes[0], sizes[-1]))
-            print_row(f"{'':11}{sizes[-1] + ' : ' + sizes[0]:{width}}", map(quotient, last, first), '{:,.2f}')
+            first, last = ([None if is_share(operation) else table.get((size, maker, operation)) for operation in operations]
+                           for size in (sizes[0], sizes[-1]))
+            print_row(f"{'':11}{sizes[-1] + ' : ' + sizes[0]:{width}}", [shown(figure, '{:,.2f}') for figure in map(quotient, last, first)])
 
 
 if __name__ == '__main__':

@@ -1,10 +1,12 @@
 #!/usr/bin/env python3
-"""Compares our proved programs with sheets.py, plans.py, judging.py and planning.py, which follow documents 01 and 02 in a form of their own.
+"""Compares our proved programs with sheets.py, plans.py, judging.py, planning.py and moving.py, which follow documents 01 and 02 in a form of
+their own.
 
 programs.py sheet FILE     prints what the program sheet_main must print for the sheet in FILE
 programs.py judge FILE     prints what the program judge_main must print for the sheet and plan in FILE
+programs.py why FILE       prints what the program why_main must print for the sheet, plan, record and cart in FILE
 programs.py lines FILE..   prints what the program vectors must print for these texts, with a sheet or a sheet and a plan a line
-programs.py check VECTORS JUDGE PLANNER   compares the stored output of all, then runs these programs on random sheets and plans and odd inputs
+programs.py check VECTORS JUDGE PLANNER WHY   compares the stored output of all, then runs these programs on random sheets and plans and odd inputs
 """
 import itertools
 import os
@@ -15,6 +17,7 @@ import sys
 import tempfile
 
 import judging
+import moving
 import planning
 import plans
 import sheets
@@ -192,6 +195,36 @@ def check_planner(program):
     print('planner program: %d stored and %d other sheets as expected' % (len(stored), len(cases)))
 
 
+def run_why(program, given):
+    """What the program that says why prints, and what it leaves of its input."""
+    with tempfile.TemporaryFile() as file:
+        file.write(given)
+        file.seek(0)
+        ran = subprocess.run([program], stdin=file, stdout=subprocess.PIPE, stderr=subprocess.PIPE, check=len(given) >= 21)
+        return ran.stdout.decode(), ran.stderr.decode(), len(given) - os.lseek(file.fileno(), 0, os.SEEK_CUR)
+
+
+def check_why(program):
+    """The program that says why: document 01's S cut after every byte and made longer than is read, and random questions with each number and length."""
+    asked = moving.written(read_bytes('examples/S.sheet'), read_bytes('examples/A.plan'), [0] * 16, 0, 1)
+    inputs = [asked[:size] for size in range(len(asked) + 1)] + [asked[-size:] for size in range(1, 30)]
+    inputs += [asked[:-21] + bytes(size) + asked[-21:] for size in [1, 2048 - len(asked), 2049 - len(asked), 3000]]
+    inputs += [asked[:1] + size.to_bytes(2, 'big') + asked[3:] + bytes(2500) for size in [46, 2027, 2028, 2048, 65535]]
+    inputs += moving.random_questions()
+    blocks = []
+    for given in inputs:
+        wanted = (*moving.printed(given), max(0, len(given) - 2048))
+        compare(repr(wanted), repr(run_why(program, given)), '%s on %s' % (program, given.hex()))
+        blocks.append(wanted[0])
+    count_numbers('questions', range(26), [re.sub(r'^cart .*\n(?s:.*)', 'ok ', block) for block in blocks])
+    check_told(blocks)
+    for length in range(1, 17):
+        count = sum(block.startswith('cart ') and block.count('\n') == length for block in blocks)
+        print('chains of %2d: %5d' % (length, count))
+        if not count:
+            sys.exit('a chain of %d was never seen' % length)
+
+
 def check_random(program):
     files = [[[sheet] for sheet in sheets.random_sheets()], list(plans.random_plans())]
     blocks = [blocks_of(enumerate(cases, 1)) for cases in files]
@@ -207,14 +240,17 @@ def main(words):
         print('\n'.join(sheets.shown(read_bytes(words[1]))))
     elif words[:1] == ['judge'] and len(words) == 2:
         print(judging.printed(read_bytes(words[1])), end='')
+    elif words[:1] == ['why'] and len(words) == 2:
+        print(moving.printed(read_bytes(words[1]))[0], end='')
     elif words[:1] == ['lines']:
         print(output_of_texts(words[1:]), end='')
-    elif words[:1] == ['check'] and len(words) == 4:
-        vectors, judge, planner = map(os.path.abspath, words[1:])
+    elif words[:1] == ['check'] and len(words) == 5:
+        vectors, judge, planner, why = map(os.path.abspath, words[1:])
         os.chdir(ROOT)
         check_stored()
         check_inputs(judge)
         check_planner(planner)
+        check_why(why)
         check_random(vectors)
     else:
         sys.exit(__doc__)

@@ -104,6 +104,15 @@ static void make_other_plans(void)
     }
 }
 
+/* Says which cart is to move before a held one can: the last of its chain. */
+static void show_why(oblakosh_record record, size_t cart)
+{
+    oblakosh_chain chain = oblakosh_why(sheet, sizeof sheet, plan, sizeof plan, record, cart);
+    if (done(chain.outcome)) {
+        printf("cart %zu waits until cart %u moves\n", cart, chain.cart[chain.length - 1]);
+    }
+}
+
 /* Asks the routine before the cart rolls, and says what it answers. */
 static void request(oblakosh_record *record, size_t cart)
 {
@@ -112,6 +121,7 @@ static void request(oblakosh_record *record, size_t cart)
         printf("cart %zu position %u made %u\n", cart, asked.position, asked.made);
     } else if (asked.outcome.number == OBLAKOSH_CART_HELD) {
         printf("cart %zu held, ahead %u\n", cart, asked.ahead);
+        show_why(*record, cart);
     }
 }
 

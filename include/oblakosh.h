@@ -220,6 +220,23 @@ oblakosh_asked oblakosh_ask(const uint8_t *sheet, size_t sheet_length, const uin
 oblakosh_asked oblakosh_move_cart(const uint8_t *sheet, size_t sheet_length, const uint8_t *plan, size_t plan_length,
                                   oblakosh_record *record, size_t cart);
 
+/* ---- why a cart does not move */
+
+typedef struct {
+    oblakosh_outcome outcome;
+    size_t length;                /* how many carts are in the chain, 1 to 16 */
+    uint8_t cart[OBLAKOSH_CARTS]; /* begun at the cart asked about; each is held by the next: by the cart in front on its lane
+                                     while that has not moved, else by the first of the wanted zone's list that has not left
+                                     it. The last may move now. No cart stands in it twice */
+    uint8_t zone[OBLAKOSH_CARTS]; /* the zone that each wants; 0 where the last wants to move out */
+    uint8_t out;                  /* 1 if the last cart's move is the move out, else 0 */
+} oblakosh_chain;
+
+/* The chain from the cart down to one that may move now; a cart that may move is a chain of one. Refuses with 1 to 25, as
+   moving does; 26 is never given. */
+oblakosh_chain oblakosh_why(const uint8_t *sheet, size_t sheet_length, const uint8_t *plan, size_t plan_length,
+                            oblakosh_record record, size_t cart);
+
 /* ---- the layout that the libraries have: the size of each struct, and the place and size of each field, in bytes */
 
 #if defined(__cplusplus) && __cplusplus >= 201103L
@@ -286,6 +303,12 @@ OBLAKOSH_FIELD(oblakosh_asked, outcome, 0, 16);
 OBLAKOSH_FIELD(oblakosh_asked, position, 16, 1);
 OBLAKOSH_FIELD(oblakosh_asked, made, 20, 4);
 OBLAKOSH_FIELD(oblakosh_asked, ahead, 24, 4);
+OBLAKOSH_STRUCT(oblakosh_chain, 64);
+OBLAKOSH_FIELD(oblakosh_chain, outcome, 0, 16);
+OBLAKOSH_FIELD(oblakosh_chain, length, 16, 8);
+OBLAKOSH_FIELD(oblakosh_chain, cart, 24, 16);
+OBLAKOSH_FIELD(oblakosh_chain, zone, 40, 16);
+OBLAKOSH_FIELD(oblakosh_chain, out, 56, 1);
 #undef OBLAKOSH_FIELD
 #undef OBLAKOSH_STRUCT
 #undef OBLAKOSH_HOLDS

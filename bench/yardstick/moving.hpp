@@ -1,4 +1,5 @@
-// The yardstick's request to move a cart: reading, the verdict, the test of the record, and then permission.
+// The yardstick's request to move a cart: reading, the verdict, the test of the record, and then permission, or the chain down to a cart
+// that may move.
 #pragma once
 
 #include "judging.hpp"
@@ -73,28 +74,74 @@ inline bool is_reached(const Sheet& sheet, const Lanes& lanes, const std::uint16
   return !(told.held & started);
 }
 
-inline Asked refused(unsigned number) { return {{number, 0}, 0, 0, 0}; }
-
-inline Asked move_cart(Lent s, Lent p, Record& record, size_t cart) {
+// A request that 1 to 25 do not refuse: the sheet, the plan, and what the record says.
+struct Request {
   Sheet sheet;
   Lanes lanes;
   Orders orders;
-  Told told = {};
-  const Outcome read = read_plan(s, p, sheet, lanes, orders);
-  if (read.number != 0) return {read, 0, 0, 0};
-  if (is_locked(sheet, lanes, orders.ahead)) return refused(22);
-  if (!is_reached(sheet, lanes, orders.ahead, record, told)) return refused(23);
-  if (cart >= sheet.carts) return refused(24);
-  const unsigned at = record.position[cart], steps = sheet.steps[cart];
-  if (at > steps) return refused(25);
-  if (at < steps) {
+  Told told;
+};
+
+[[gnu::always_inline]] inline Outcome take(Lent s, Lent p, const Record& record, size_t cart, Request& request) {
+  const Outcome read = read_plan(s, p, request.sheet, request.lanes, request.orders);
+  if (read.number != 0) return read;
+  request.told = {};
+  if (is_locked(request.sheet, request.lanes, request.orders.ahead)) return {22, 0};
+  if (!is_reached(request.sheet, request.lanes, request.orders.ahead, record, request.told)) return {23, 0};
+  if (cart >= request.sheet.carts) return {24, 0};
+  if (record.position[cart] > request.sheet.steps[cart]) return {25, 0};
+  return {0, 0};
+}
+
+inline Asked move_cart(Lent s, Lent p, Record& record, size_t cart) {
+  Request request;
+  const Outcome taken = take(s, p, record, cart, request);
+  if (taken.number != 0) return {taken, 0, 0, 0};
+  const unsigned at = record.position[cart];
+  if (at < request.sheet.steps[cart]) {
     const size_t x = 8 * cart + at;
-    const size_t before = count(orders.ahead[x] & ~told.left[sheet.zone[x]]) + (told.held >> cart & 1);
+    const Told& told = request.told;
+    const size_t before = count(request.orders.ahead[x] & ~told.left[request.sheet.zone[x]]) + (told.held >> cart & 1);
     if (before != 0) return {{26, 0}, 0, 0, static_cast<std::uint32_t>(before)};
   }
   ++record.position[cart];
   ++record.made;
   return {{0, 0}, record.position[cart], record.made, 0};
+}
+
+struct Chain {
+  Outcome outcome;
+  size_t length;
+  std::uint8_t cart[16], zone[16], out;
+};
+
+// From the cart on, each held by the next: by the cart in front if the lane holds it, else by the first in the list of the zone it wants
+// that has not left it. The record is one that a run reaches, so a cart that the lane holds is on the lane, and the chain ends.
+inline Chain why(Lent s, Lent p, const Record& record, size_t cart) {
+  Request request;
+  Chain chain{};
+  chain.outcome = take(s, p, record, cart, request);
+  if (chain.outcome.number != 0) return chain;
+  const Told& told = request.told;
+  for (;;) {
+    const unsigned at = record.position[cart];
+    const size_t x = 8 * cart + at, here = chain.length++;
+    chain.cart[here] = static_cast<std::uint8_t>(cart);
+    if (at == request.sheet.steps[cart]) {
+      chain.out = 1;
+      return chain;
+    }
+    const size_t z = request.sheet.zone[x];
+    chain.zone[here] = static_cast<std::uint8_t>(z);
+    if (told.held >> cart & 1) {
+      cart = highest(request.lanes.same[cart] & (only(cart) - 1));
+      continue;
+    }
+    if (!(request.orders.ahead[x] & ~told.left[z])) return chain;
+    const std::uint8_t* first = request.orders.list + 16 * z;
+    while (told.left[z] >> *first & 1) ++first;
+    cart = *first;
+  }
 }
 
 }  // namespace yardstick

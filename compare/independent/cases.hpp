@@ -900,6 +900,157 @@ inline Record random_record(Random& random) {
 }
 
 // ---------------------------------------------------------------------------------------------
+// Chains for #105
+// ---------------------------------------------------------------------------------------------
+
+// A crossing, and a record in which these carts are each held by the next and the last may move.
+struct Chained {
+    Sheet sheet;
+    Lists lists;
+    Record record;
+    std::vector<uint32_t> chain;
+};
+
+// What a chain is made of: carts on the lane behind each other, and carts that wait for the next one's zone.
+enum class Links { zones, lanes, mixed };
+
+// A chain of so many carts in runs, each run on a lane of its own. In a run each cart is held on the lane by the next; the run's
+// last cart wants a zone in which the next run's first cart is ahead of it. Cart, zone and lane numbers are mixed.
+class ChainMaker {
+public:
+    ChainMaker(Random& the_random, uint32_t the_length, Links the_links) : random(the_random), length(the_length), links(the_links) {}
+
+    Chained make() {
+        while (carts.size() < length) add_run();
+        const uint32_t others = random.below(17 - length);
+        for (uint32_t i = 0; i < others; i++) add_other();
+        return numbered();
+    }
+
+private:
+    struct Planned {
+        std::vector<uint32_t> route;
+        uint32_t position;
+    };
+    Random& random;
+    const uint32_t length;
+    const Links links;
+    std::vector<Planned> carts;                                // those of the chain first
+    std::vector<std::vector<size_t>> passing;                  // for each zone its carts, first through first
+    std::vector<std::vector<size_t>> lanes;                    // for each lane its carts, the front one first
+    int wanted = -1;                                           // the zone that the last run's last cart wants
+
+    uint32_t new_zone() {
+        passing.push_back({});
+        return static_cast<uint32_t>(passing.size()) - 1;
+    }
+
+    // Whether a zone more leaves one for each cart of the chain that is still to come.
+    bool has_zone_to_spare() const { return passing.size() + (length - carts.size()) < 24; }
+
+    uint32_t size_of_run() {
+        const uint32_t rest = length - static_cast<uint32_t>(carts.size());
+        if (links == Links::zones) return 1;
+        if (links == Links::lanes) return rest;
+        return random.one_in(2) ? 1 : random.between(1, std::min(rest, 5u));
+    }
+
+    void add_run() {
+        const uint32_t size = size_of_run();
+        lanes.push_back({});
+        for (uint32_t i = 0; i < size; i++) {
+            const size_t cart = carts.size();
+            const bool only_one = size == 1;
+            const bool ends_run = i + 1 == size;
+            const bool ends_chain = cart + 1 == length;
+            const int held_for = i == 0 ? wanted : -1;         // the zone that the run before wants
+            std::vector<uint32_t> route;
+            uint32_t position = 0;
+            if (held_for >= 0) route.push_back(static_cast<uint32_t>(held_for));
+            if (!ends_run) {
+                if (route.empty() || (has_zone_to_spare() && random.one_in(2))) route.insert(route.begin(), new_zone());
+            } else if (!ends_chain) {
+                wanted = static_cast<int>(new_zone());
+                const bool inside = only_one && (held_for >= 0 || has_zone_to_spare()) && !random.one_in(3);
+                if (inside && route.empty()) route.push_back(new_zone());
+                position = inside ? 1 : 0;
+                route.insert(inside ? route.end() : route.begin(), static_cast<uint32_t>(wanted));
+            } else {
+                if (route.empty()) route.push_back(new_zone());
+                if (has_zone_to_spare() && random.one_in(2)) route.push_back(new_zone());
+                position = only_one ? random.below(2) : 0;
+            }
+            carts.push_back(Planned{route, position});
+            for (uint32_t zone : route) passing[zone].insert(passing[zone].begin(), cart);   // ahead of the one that waits for it
+            lanes.back().insert(lanes.back().begin(), cart);
+        }
+    }
+
+    // A cart of one step that is out, or that waits behind, or between two, and holds none of the chain that is not held anyway.
+    void add_other() {
+        const size_t cart = carts.size();
+        std::vector<size_t>& list = passing[random.below(static_cast<uint32_t>(passing.size()))];
+        const uint32_t zone = static_cast<uint32_t>(&list - passing.data());
+        const bool own_lane = random.one_in(2);
+        if (own_lane) lanes.push_back({});
+        std::vector<size_t>& lane = own_lane ? lanes.back() : lanes[random.below(static_cast<uint32_t>(lanes.size()))];
+        const bool out = random.one_in(3);
+        lane.insert(out ? lane.begin() : lane.end(), cart);
+        carts.push_back(Planned{{zone}, out ? 2u : 0u});
+        if (out) {
+            list.insert(list.begin(), cart);
+        } else if (own_lane && list.size() == 2 && carts[list[0]].position < 2 && random.one_in(2)) {
+            list.insert(list.begin() + 1, cart);
+        } else {
+            list.push_back(cart);
+        }
+    }
+
+    Chained numbered() {
+        std::vector<uint32_t> number, zone_number, lane_number;
+        for (uint32_t c = 0; c < carts.size(); c++) number.push_back(c);
+        for (uint32_t z = 0; z < passing.size(); z++) zone_number.push_back(z);
+        for (uint32_t l = 0; l < 16; l++) lane_number.push_back(l);
+        random.shuffle(number);
+        random.shuffle(zone_number);
+        random.shuffle(lane_number);
+        // "On one lane, a lower cart number is in front."
+        for (const std::vector<size_t>& lane : lanes) {
+            std::vector<uint32_t> of_lane;
+            for (size_t cart : lane) of_lane.push_back(number[cart]);
+            std::sort(of_lane.begin(), of_lane.end());
+            for (size_t i = 0; i < lane.size(); i++) number[lane[i]] = of_lane[i];
+        }
+        Chained made;
+        for (size_t z = 0; z < passing.size(); z++) made.sheet.zones.push_back(Zone{random.below(100), random.below(100)});
+        made.sheet.carts.resize(carts.size());
+        made.lists.resize(passing.size());
+        for (size_t c = 0; c < carts.size(); c++) {
+            Cart& cart = made.sheet.carts[number[c]];
+            cart.arrival = random.below(500);
+            for (uint32_t zone : carts[c].route) cart.steps.push_back(Step{zone_number[zone], random.below(300), random.below(100)});
+            cart.steps.back().travel = 0;
+            made.record.positions[number[c]] = static_cast<uint8_t>(carts[c].position);
+            made.record.made += carts[c].position;
+        }
+        for (size_t l = 0; l < lanes.size(); l++) {
+            for (size_t cart : lanes[l]) made.sheet.carts[number[cart]].lane = lane_number[l];
+        }
+        for (size_t z = 0; z < passing.size(); z++) {
+            for (size_t cart : passing[z]) made.lists[zone_number[z]].push_back(number[cart]);
+        }
+        sort_arrivals(made.sheet);
+        for (size_t c = 0; c < length; c++) made.chain.push_back(number[c]);
+        return made;
+    }
+};
+
+inline Chained random_chain(Random& random, uint32_t length) {
+    const Links links[4] = {Links::zones, Links::lanes, Links::mixed, Links::mixed};
+    return ChainMaker(random, length, links[random.below(4)]).make();
+}
+
+// ---------------------------------------------------------------------------------------------
 // A whole case: the input of every operation
 // ---------------------------------------------------------------------------------------------
 
@@ -994,6 +1145,14 @@ inline Bytes random_standard_input(Random& random, const Bytes& sheet, const Byt
         default: break;
     }
     return input;
+}
+
+// The bytes that the program which says why takes after a sheet and a plan.
+inline Bytes record_and_cart(const Record& record, uint32_t cart) {
+    Bytes bytes(record.positions.begin(), record.positions.end());
+    append_number(bytes, 4, record.made);
+    append_number(bytes, 1, cart);
+    return bytes;
 }
 
 // The lists of the planner's plan.
@@ -1218,6 +1377,20 @@ inline Case line_case(Random& random) {
     return c;
 }
 
+// A chain of so many carts: each of its carts is asked about, and others, and in damaged records.
+inline Case chain_case(Random& random, uint32_t length) {
+    Case c;
+    c.kind = "chain of " + std::to_string(length);
+    const Chained made = random_chain(random, length);
+    c.sheet = sheet_to_bytes(made.sheet);
+    c.plan = plan_to_bytes(made.lists);
+    add_other_inputs(random, c);
+    for (uint32_t cart = 0; cart <= made.sheet.carts.size(); cart++) c.move_requests.push_back(MoveRequest{made.record, cart});
+    for (uint32_t cart : made.chain) c.move_requests.push_back(MoveRequest{spoilt_record(random, made.sheet, made.record), cart});
+    c.move_requests.push_back(MoveRequest{made.record, number_from(random, static_cast<uint32_t>(made.sheet.carts.size()))});
+    return c;
+}
+
 inline Case random_small_case(Random& random) {
     if (random.one_in(20)) return planners_case(random);
     if (random.one_in(12)) return line_case(random);
@@ -1391,6 +1564,54 @@ inline std::vector<LineSituation> line_situations_moved(const Sheet& sheet, cons
         if (told && independent::run_reaches(sheet, independent::orders_of_lists(lists), positions, false)) found.push_back(only_base_reaches);
     }
     return found;
+}
+
+// What the chain of #105 has to be tried on; a run that never saw one of these has failed.
+enum ChainSituation {
+    last_moves_out, last_moves_into_zone, last_on_lane, lane_link_first, lane_link_in_middle, lane_link_last, links_over_two_lanes,
+    lane_before_list, first_of_several, chain_situations
+};
+constexpr const char* chain_situation_names[chain_situations] = {
+    "the last moves out", "the last moves on into a zone", "the last leaves its lane", "a lane's link first", "a lane's link in the middle",
+    "a lane's link last", "links over two lanes", "the lane's cart pointed to before another of the list", "the first of several in the list"};
+
+// The situations of a chain in a record that a run reaches.
+inline std::vector<ChainSituation> situations_of(const Sheet& sheet, const Lists& lists, const Record& record,
+                                                 const independent::ChainAnswer& answer) {
+    bool found[chain_situations] = {};
+    Positions positions;
+    for (uint32_t c = 0; c < sheet.carts.size(); c++) positions.push_back(record.positions[c]);
+    const uint32_t last = answer.links.back().cart;
+    found[last_moves_out] = answer.out;
+    found[last_moves_into_zone] = !answer.out && positions[last] > 0;
+    found[last_on_lane] = positions[last] == 0;
+    const size_t links = answer.links.size() - 1;
+    std::vector<uint32_t> lanes;
+    for (size_t i = 0; i < links; i++) {
+        const uint32_t cart = answer.links[i].cart, next = answer.links[i + 1].cart, zone = answer.links[i].zone;
+        std::vector<uint32_t> ahead;                           // in the zone's list, and not gone
+        for (uint32_t listed : lists[zone]) {
+            if (listed == cart) break;
+            if (!independent::has_left(sheet, positions, listed, zone)) ahead.push_back(listed);
+        }
+        if (!independent::is_held_by_lane(sheet, positions, cart)) {
+            if (ahead.size() > 1) found[first_of_several] = true;
+            continue;
+        }
+        if (i == 0) found[lane_link_first] = true;
+        if (i > 0 && i + 1 < links) found[lane_link_in_middle] = true;
+        if (i + 1 == links) found[lane_link_last] = true;
+        if (!ahead.empty() && ahead[0] != next) found[lane_before_list] = true;
+        for (uint32_t lane : lanes) {
+            if (lane != sheet.carts[cart].lane) found[links_over_two_lanes] = true;
+        }
+        lanes.push_back(sheet.carts[cart].lane);
+    }
+    std::vector<ChainSituation> situations;
+    for (int s = 0; s < chain_situations; s++) {
+        if (found[s]) situations.push_back(static_cast<ChainSituation>(s));
+    }
+    return situations;
 }
 
 // ---------------------------------------------------------------------------------------------

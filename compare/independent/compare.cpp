@@ -29,12 +29,12 @@ using library::Tally;
 // Work, and what was seen in it
 // ---------------------------------------------------------------------------------------------
 
-enum Kind { stored, one_byte, tiny, small, damaged_sheets, damaged_plans, dense, large, every_field, kinds };
+enum Kind { stored, one_byte, tiny, small, damaged_sheets, damaged_plans, dense, large, every_field, chains, kinds };
 static const char* const kind_names[kinds] = {
     "examples and stored sheets", "one byte changed, or cut", "tiny crossings", "small crossings",
-    "damaged sheets", "damaged plans", "dense crossings", "large crossings", "every field cut or wrong"};
+    "damaged sheets", "damaged plans", "dense crossings", "large crossings", "every field cut or wrong", "chains"};
 
-enum Program { judge_program, planner_program, first_program, better_program, program_count };
+enum Program { judge_program, planner_program, first_program, better_program, why_program, program_count };
 
 // What is added up over all jobs.
 struct Seen {
@@ -119,12 +119,13 @@ static Case case_of(Random& random, const char* kind, const Bytes& sheet, const 
     return c;
 }
 
-// Asks for every cart, and one more, in every record of positions in range with their sum as the count.
-static void ask_everything(Case& c, const Sheet& sheet) {
+// Asks for every cart, and one more, in every record of positions in range with their sum as the count; and in each of them damaged.
+static void ask_everything(Random& random, Case& c, const Sheet& sheet) {
     const uint32_t m = static_cast<uint32_t>(sheet.carts.size());
     Record record;
     while (true) {
         for (uint32_t cart = 0; cart <= m; cart++) c.move_requests.push_back(MoveRequest{record, cart});
+        c.move_requests.push_back(MoveRequest{cases::spoilt_record(random, sheet, record), random.below(m + 1)});
         uint32_t next = 0;
         while (next < m && record.positions[next] == sheet.carts[next].steps.size() + 1) {
             record.made -= record.positions[next];
@@ -159,7 +160,7 @@ static void compare_stored(Random& random, Seen& seen) {
     for (const Bytes& sheet : {sheet_S, one_lane}) {
         for (const Bytes& plan : {plan_A, plan_B}) {
             Case c = case_of(random, "document 01's sheet and plan", sheet, plan);
-            ask_everything(c, independent::read_sheet(sheet).sheet);
+            ask_everything(random, c, independent::read_sheet(sheet).sheet);
             compare(seen, stored, c);
         }
     }
@@ -231,7 +232,7 @@ static std::vector<Bytes> sheets_for_every_part() {
     return sheets;
 }
 
-// All routes and all plans; with two carts all records too.
+// All routes and all plans; with two carts all records too, and with three those of one plan in three hundred.
 static void compare_tiny(Random& random, Seen& seen, uint32_t m, uint32_t n, const std::vector<uint32_t>& lanes) {
     cases::for_every_tiny_crossing(random, m, n, lanes, [&](const Sheet& sheet, const Lists& lists, bool first) {
         Case c;
@@ -243,8 +244,8 @@ static void compare_tiny(Random& random, Seen& seen, uint32_t m, uint32_t n, con
         c.planning_room = cases::random_room(random, length + random.below(3));
         c.words = cases::random_words(random);
         c.list_zones = {random.below(n + 1)};
-        if (m == 2) {
-            ask_everything(c, sheet);
+        if (m == 2 || random.one_in(300)) {
+            ask_everything(random, c, sheet);
         } else {
             const Record record = cases::record_by_random_run(random, sheet, lists);
             c.move_requests.push_back(MoveRequest{record, random.below(m + 1)});
@@ -299,6 +300,69 @@ static void compare_planner_program(Random& random, Seen& seen) {
     }
 }
 
+// A sheet, a plan, and a request, as the program takes them.
+static Bytes why_input(const Bytes& sheet, const Bytes& plan, const Record& record, uint64_t cart) {
+    Bytes input = sheet;
+    input.insert(input.end(), plan.begin(), plan.end());
+    const Bytes request = cases::record_and_cart(record, static_cast<uint32_t>(cart));
+    input.insert(input.end(), request.begin(), request.end());
+    return input;
+}
+
+// The program that says why on chains of each length, on so many inputs of each number, on every part of a sheet, on inputs that
+// are too short, and on longer ones than it reads.
+static void compare_why_program(Random& random, Seen& seen) {
+    const auto count = [&](const Bytes& input) { seen.program[why_program].count(programs::compare_why(input)); };
+    const Bytes with_request = why_input(sheet_S, plan_A, Record(), 1);
+    for (size_t length = 0; length < 21; length++) {
+        programs::compare_why(Bytes(with_request.begin(), with_request.begin() + static_cast<long>(length)));
+        programs::compare_why(Bytes(with_request.end() - static_cast<long>(length), with_request.end()));
+    }
+    for (size_t length = 21; length <= with_request.size(); length++) {
+        count(Bytes(with_request.begin(), with_request.begin() + static_cast<long>(length)));
+    }
+    for (uint32_t total : {2047, 2048, 2049, 2069, 5000}) {
+        // the request at the end of what is read, after a plan that is too long, and after a sheet that takes all that is read before it
+        Bytes longer = why_input(sheet_S, plan_A, Record(), 0);
+        longer.resize(total, 0);
+        const Bytes request = cases::record_and_cart(Record(), 1);
+        std::copy(request.begin(), request.end(), longer.begin() + std::min(total, 2048u) - 21);
+        count(longer);
+        for (uint32_t said : {2026, 2027, 2028, 2048}) {
+            cases::put_number(longer, 1, 2, said);
+            count(longer);
+        }
+    }
+    for (const Bytes& sheet : sheets_for_every_part()) count(why_input(sheet, plan_A, Record(), 0));
+    for (uint32_t length = 1; length <= 16; length++) {
+        for (int i = 0; i < 4; i++) {
+            const cases::Chained made = cases::random_chain(random, length);
+            for (uint32_t cart : made.chain) {
+                count(why_input(cases::sheet_to_bytes(made.sheet), cases::plan_to_bytes(made.lists), made.record, cart));
+            }
+        }
+    }
+    uint64_t runs[29] = {};
+    for (uint32_t tried = 0; tried < 40000; tried++) {
+        const Case c = cases::random_small_case(random);
+        for (const MoveRequest& request : c.move_requests) {
+            if (c.sheet.size() + c.plan.size() + 21 > 2048) break;
+            const Bytes input = why_input(c.sheet, c.plan, request.record, request.cart);
+            const uint32_t number = programs::outcome_in(independent::why_program(input).output).number;
+            if (runs[number] >= runs_per_number) continue;
+            runs[number]++;
+            count(input);
+        }
+    }
+}
+
+// Chains of each length, and each of their carts asked about.
+static void compare_chains(Random& random, Seen& seen) {
+    for (uint32_t length = 1; length <= 16; length++) {
+        for (int i = 0; i < 50; i++) compare(seen, chains, cases::chain_case(random, length));
+    }
+}
+
 static void add_random_jobs(std::vector<Job>& jobs, Kind kind, uint64_t number, uint64_t cases_each, Case (*make)(Random&)) {
     for (uint64_t i = 0; i < number; i++) {
         jobs.push_back(Job{kind_names[kind], 1000 * (kind + 1) + i, [=](Random& random, Seen& seen) {
@@ -312,6 +376,7 @@ static std::vector<Job> all_jobs() {
     std::vector<Job> jobs;
     jobs.push_back(Job{"judge program", 1, compare_judge_program});
     jobs.push_back(Job{"planner program", 2, compare_planner_program});
+    jobs.push_back(Job{"program that says why", 105, compare_why_program});
     jobs.push_back(Job{kind_names[stored], 3, compare_stored});
     jobs.push_back(Job{kind_names[one_byte], 4, compare_one_byte});
     for (uint32_t m = 2; m <= 3; m++) {
@@ -324,6 +389,7 @@ static std::vector<Job> all_jobs() {
         }
     }
     jobs.push_back(Job{kind_names[every_field], 104, compare_every_field});
+    for (uint64_t i = 0; i < 8; i++) jobs.push_back(Job{kind_names[chains], 10500 + i, compare_chains});
     add_random_jobs(jobs, large, 100, 10, cases::random_large_case);
     add_random_jobs(jobs, dense, 100, 100, cases::random_dense_case);
     add_random_jobs(jobs, small, 340, 1000, cases::random_small_case);
@@ -338,7 +404,7 @@ static std::vector<Job> all_jobs() {
 
 // "Reading a sheet has 1 to 14, reading a plan 1 to 21, writing it again 1 to 21 and 28, the list operation 1 to 21
 // and 27. The planner takes no plan and has only 1 to 14 and 28. Judging has 1 to 22 and 28. Moving has 1 to 26."
-// Document 02, #101: "Refusals: none new; 1 to 14 and 28."
+// Document 02, #101: "Refusals: none new; 1 to 14 and 28."; #105: "as for moving up to 25; 26 is never given".
 struct Column {
     const char* name;
     uint32_t most;                       // it has 0 to this number,
@@ -346,10 +412,11 @@ struct Column {
 };
 static const Column columns[library::operations] = {
     {"sheet", 14, 0},    {"plan", 21, 0},   {"again", 21, 28},  {"list", 21, 27}, {"judge", 22, 28},
-    {"planner", 14, 28}, {"first", 14, 28}, {"better", 14, 28}, {"ask", 26, 0},   {"move", 26, 0}};
+    {"planner", 14, 28}, {"first", 14, 28}, {"better", 14, 28}, {"ask", 26, 0},   {"move", 26, 0},
+    {"why", 25, 0}};
 // The programs lend room enough, so that 28 never comes.
 static const Column program_columns[program_count] = {
-    {"judge program", 22, 0}, {"planner program", 14, 0}, {"planner first", 14, 0}, {"planner better", 14, 0}};
+    {"judge program", 22, 0}, {"planner program", 14, 0}, {"planner first", 14, 0}, {"planner better", 14, 0}, {"why program", 25, 0}};
 
 // Prints a number's count; gives what is wrong with it, if anything is.
 static std::string print_count(const Column& column, uint32_t number, uint64_t count, int width) {
@@ -408,6 +475,18 @@ static void print_situations(const char* of_what, const char* const* names, cons
     if (!missing.empty()) fail(of_what + missing);
 }
 
+// Prints how often a chain of each length was seen; each has to be.
+static void print_chains(const Seen& seen) {
+    std::printf("chains by length:");
+    std::string missing;
+    for (int length = 1; length <= 16; length++) {
+        std::printf(" %d: %llu", length, shown(seen.tally.chains[length]));
+        if (seen.tally.chains[length] == 0) missing += "\nnever seen: a chain of " + std::to_string(length);
+    }
+    std::printf("\n");
+    if (!missing.empty()) fail("chains" + missing);
+}
+
 static void print_kinds(const Seen& seen) {
     std::printf("%-28s %9s %9s %14s %13s\n", "cases", "all", "readable", "sheet refused", "plan refused");
     for (int kind = 0; kind < kinds; kind++) {
@@ -424,8 +503,9 @@ static void print_kinds(const Seen& seen) {
     std::printf("\nsheets planned with a group cut: %llu\n", shown(seen.tally.cut_sheets));
     const independent::DoubleCheckCounts& d = seen.double_checks;
     std::printf("the independent program searched all runs of %llu crossings, %llu states, and compared %llu verdicts, %llu entering times, "
-                "%llu spare times, %llu records and the cart and step of %llu refusals two ways\n",
-                shown(d.searches), shown(d.states), shown(d.verdicts), shown(d.times), shown(d.spare), shown(d.records), shown(d.parts));
+                "%llu spare times, %llu records and the cart and step of %llu refusals two ways; it held %llu chains to the rule for moves\n",
+                shown(d.searches), shown(d.states), shown(d.verdicts), shown(d.times), shown(d.spare), shown(d.records), shown(d.parts),
+                shown(d.chains));
 }
 
 // ---------------------------------------------------------------------------------------------
@@ -478,6 +558,8 @@ int main() {
     print_least_told(seen);
     print_situations("sheets planned three ways", cases::planners_situation_names, seen.tally.planners, cases::planners_situations);
     print_situations("the stop line", cases::line_situation_names, seen.tally.line, cases::line_situations);
+    print_chains(seen);
+    print_situations("chains", cases::chain_situation_names, seen.tally.chain, cases::chain_situations);
     if (seen.readable[small] < 200000) fail("fewer than 200,000 small crossings with a readable plan");
     if (seen.tiny_sheets != 17677 || seen.cases[tiny] != 667768) fail("not every tiny crossing");
     if (seen.sheet_refused[damaged_sheets] < 100000) fail("fewer than 100,000 damaged sheets");

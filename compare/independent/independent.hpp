@@ -1,8 +1,8 @@
-// Every operation of document 01 with document 02's #101, #102 and #104 on any bytes, written from them alone and plain on purpose.
+// Every operation of document 01 with document 02's #101, #102, #104 and #105 on any bytes, written from them alone and plain on purpose.
 //
 // Lines in quotation marks are sentences of document 01, unless they are marked "001", which is the
-// paper it refers to (Lin and others 2019), or #101, #102 or #104, which are document 02's. The double checks (search over all runs, times two ways,
-// resource conflict graph, cart and step of a refusal two ways) are inside the operations; one that fails throws DoubleCheckFailed.
+// paper it refers to (Lin and others 2019), or #101, #102, #104 or #105, which are document 02's. The double checks (search over all runs, times
+// two ways, resource conflict graph, cart and step of a refusal two ways) are inside the operations; one that fails throws DoubleCheckFailed.
 
 #ifndef INDEPENDENT_HPP
 #define INDEPENDENT_HPP
@@ -36,6 +36,7 @@ struct DoubleCheckCounts {
     uint64_t records = 0;              // records tested for being reachable
     uint64_t records_searched = 0;     // of these, compared with the search
     uint64_t parts = 0;                // cart and step of a refusal two ways
+    uint64_t chains = 0;               // chains held to the moves' rule link by link
 
     void add(const DoubleCheckCounts& other) {
         searches += other.searches;
@@ -47,6 +48,7 @@ struct DoubleCheckCounts {
         records += other.records;
         records_searched += other.records_searched;
         parts += other.parts;
+        chains += other.chains;
     }
 };
 inline thread_local DoubleCheckCounts double_check_counts;
@@ -175,6 +177,14 @@ struct Record {
 struct MoveAnswer : Outcome {
     uint32_t ahead = 0;                // only with 26
     Record record;                     // afterwards
+};
+struct ChainLink {
+    uint32_t cart = 0;
+    uint32_t zone = 0;                 // the wanted zone, 0 where the move out is wanted
+};
+struct ChainAnswer : Outcome {
+    std::vector<ChainLink> links;      // begun at the cart asked about, each held by the next
+    bool out = false;                  // whether the last one's move is the move out
 };
 
 // ---------------------------------------------------------------------------------------------
@@ -1755,52 +1765,72 @@ inline bool record_is_reached(const Sheet& sheet, const Lists& lists, const Verd
     return reached;
 }
 
+// A request for a cart under a plan, once it is refused with none of 1 to 25.
+struct Request {
+    Outcome refusal;
+    PlanAnswer plan;
+    Orders orders;
+    const Verdict* verdict = nullptr;
+    uint32_t cart = 0;
+    Positions positions;
+};
+
+// "Moving has 1 to 26." #105: "Refusals: as for moving up to 25"
+inline Request take_request(const Bytes& sheet_bytes, const Bytes& plan_bytes, const Record& record, uint64_t requested) {
+    Request request;
+    request.plan = read_plan(sheet_bytes, plan_bytes);
+    if (request.plan.number != 0) {
+        pass_on(request.plan, request.refusal);
+        return request;
+    }
+    const Sheet& sheet = request.plan.sheet;
+    request.orders = orders_of_lists(request.plan.lists);
+    request.verdict = &verdict_of(sheet_bytes, plan_bytes, sheet, request.plan.lists);
+    // "A locked plan is refused before any move."
+    if (request.verdict->locked) {
+        request.refusal.number = 22;
+        return request;
+    }
+    if (!record_is_reached(sheet, request.plan.lists, *request.verdict, record)) {
+        request.refusal.number = 23;
+        return request;
+    }
+    // "cart number m or more"
+    if (requested >= sheet.carts.size()) {
+        request.refusal.number = 24;
+        return request;
+    }
+    request.cart = static_cast<uint32_t>(requested);
+    for (uint32_t c = 0; c < sheet.carts.size(); c++) request.positions.push_back(record.positions[c]);
+    // "cart is already out"
+    if (is_out(sheet, request.positions, request.cart)) request.refusal.number = 25;
+    return request;
+}
+
 inline MoveAnswer move_cart(const Bytes& sheet_bytes, const Bytes& plan_bytes, const Record& record,
                             uint64_t requested) {
     MoveAnswer answer;
     answer.record = record;              // "changed only by a permitted move"
-    // "Moving has 1 to 26."
-    const PlanAnswer plan = read_plan(sheet_bytes, plan_bytes);
-    if (plan.number != 0) {
-        pass_on(plan, answer);
+    const Request request = take_request(sheet_bytes, plan_bytes, record, requested);
+    if (request.refusal.number != 0) {
+        pass_on(request.refusal, answer);
         return answer;
     }
-    const Verdict& verdict = verdict_of(sheet_bytes, plan_bytes, plan.sheet, plan.lists);
-    // "A locked plan is refused before any move."
-    if (verdict.locked) {
-        answer.number = 22;
-        return answer;
-    }
-    if (!record_is_reached(plan.sheet, plan.lists, verdict, record)) {
-        answer.number = 23;
-        return answer;
-    }
-    // "cart number m or more"
-    if (requested >= plan.sheet.carts.size()) {
-        answer.number = 24;
-        return answer;
-    }
-    const uint32_t cart = static_cast<uint32_t>(requested);
-    Positions positions;
-    for (uint32_t c = 0; c < plan.sheet.carts.size(); c++) positions.push_back(record.positions[c]);
-    // "cart is already out"
-    if (is_out(plan.sheet, positions, cart)) {
-        answer.number = 25;
-        return answer;
-    }
+    const Sheet& sheet = request.plan.sheet;
+    const uint32_t cart = request.cart;
+    Positions positions = request.positions;
     // "cart is held"; "26 also tells how many carts ahead have not left the wanted zone"; #102: "26
     // reports the carts ahead in the zone list and adds one if the lane holds the cart"
-    const int zone = wanted_zone(plan.sheet, positions, cart);
+    const int zone = wanted_zone(sheet, positions, cart);
     uint32_t ahead_and_not_left = 0;
     if (zone >= 0) {
-        for (uint32_t listed : plan.lists[static_cast<size_t>(zone)]) {
+        for (uint32_t listed : request.plan.lists[static_cast<size_t>(zone)]) {
             if (listed == cart) break;
-            if (!has_left(plan.sheet, positions, listed, static_cast<uint32_t>(zone))) ahead_and_not_left++;
+            if (!has_left(sheet, positions, listed, static_cast<uint32_t>(zone))) ahead_and_not_left++;
         }
     }
-    const uint32_t lane = is_held_by_lane(plan.sheet, positions, cart) ? 1 : 0;
-    const Orders orders = orders_of_lists(plan.lists);
-    must((ahead_and_not_left + lane == 0) == is_permitted(plan.sheet, orders, positions, cart),
+    const uint32_t lane = is_held_by_lane(sheet, positions, cart) ? 1 : 0;
+    must((ahead_and_not_left + lane == 0) == is_permitted(sheet, request.orders, positions, cart),
          "held exactly if some cart ahead has not left or the lane holds the cart");
     if (ahead_and_not_left + lane > 0) {
         answer.number = 26;
@@ -1809,10 +1839,53 @@ inline MoveAnswer move_cart(const Bytes& sheet_bytes, const Bytes& plan_bytes, c
     }
     answer.record.positions[cart] = static_cast<uint8_t>(record.positions[cart] + 1);
     answer.record.made = record.made + 1;
-    if (verdict.runs.searched) {
+    if (request.verdict->runs.searched) {
         positions[cart]++;
-        must(verdict.runs.reached[state_number(verdict.runs, positions)], "the record afterwards is reached");
+        must(request.verdict->runs.reached[state_number(request.verdict->runs, positions)], "the record afterwards is reached");
     }
+    return answer;
+}
+
+// ---------------------------------------------------------------------------------------------
+// Why a cart does not move
+// ---------------------------------------------------------------------------------------------
+
+// #105: "Each link follows the ring's pointing rule in the lent record, lane included; the last cart's
+// move is permitted, and no cart stands in the chain twice."
+inline void check_chain(const Sheet& sheet, const Lists& lists, const Orders& orders, const Positions& positions,
+                        const ChainAnswer& answer) {
+    const std::vector<ChainLink>& links = answer.links;
+    for (size_t i = 0; i < links.size(); i++) {
+        const bool last = i + 1 == links.size();
+        must(!is_out(sheet, positions, links[i].cart), "a cart of the chain is not out");
+        must(is_permitted(sheet, orders, positions, links[i].cart) == last, "of the chain the last cart may move, and no other");
+        must(last || cart_pointed_to(sheet, lists, positions, links[i].cart) == links[i + 1].cart, "each is held by the next");
+        for (size_t j = 0; j < i; j++) must(links[j].cart != links[i].cart, "no cart stands in the chain twice");
+    }
+    must(links.size() <= sheet.carts.size(), "a chain has no more carts than the sheet");
+    double_check_counts.chains++;
+}
+
+inline ChainAnswer why(const Bytes& sheet_bytes, const Bytes& plan_bytes, const Record& record, uint64_t requested) {
+    ChainAnswer answer;
+    const Request request = take_request(sheet_bytes, plan_bytes, record, requested);
+    if (request.refusal.number != 0) {
+        pass_on(request.refusal, answer);
+        return answer;
+    }
+    const Sheet& sheet = request.plan.sheet;
+    // "this cart wants zone Z (or the move out), held by that cart, which wants the next, down to a cart
+    // that may move now"
+    uint32_t cart = request.cart;
+    while (true) {
+        const int zone = wanted_zone(sheet, request.positions, cart);
+        answer.links.push_back(ChainLink{cart, zone < 0 ? 0 : static_cast<uint32_t>(zone)});
+        answer.out = zone < 0;
+        if (is_permitted(sheet, request.orders, request.positions, cart)) break;
+        must(answer.links.size() < 16, "the chain ends");
+        cart = cart_pointed_to(sheet, request.plan.lists, request.positions, cart);
+    }
+    check_chain(sheet, request.plan.lists, request.orders, request.positions, answer);
     return answer;
 }
 
@@ -1828,20 +1901,34 @@ inline std::string refusal_line(const Outcome& refusal) {
     return line + "\n";
 }
 
-inline std::string judge_program(const Bytes& standard_input) {
-    // "It reads the first 2,048 bytes of standard input and no more: a sheet, then a plan."
+// "It reads the first 2,048 bytes of standard input and no more"
+inline Bytes first_2048(const Bytes& standard_input) {
     Bytes read;
     for (size_t i = 0; i < standard_input.size() && i < 2048; i++) read.push_back(standard_input[i]);
+    return read;
+}
 
-    // "The sheet is as long as bytes 1 and 2 say; if these are missing or say more than was read,
-    // all of it is sheet and the plan is empty."
+struct Parted {
+    Bytes sheet, plan;
+};
+
+// "The sheet is as long as bytes 1 and 2 say; if these are missing or say more than was read, all of it
+// is sheet and the plan is empty."
+inline Parted parted(const Bytes& read) {
     size_t sheet_length = read.size();
     if (read.size() >= 3) {
         const size_t said = static_cast<size_t>(read[1]) * 256 + read[2];
         if (said <= read.size()) sheet_length = said;
     }
-    const Bytes sheet_bytes(read.begin(), read.begin() + static_cast<long>(sheet_length));
-    const Bytes plan_bytes(read.begin() + static_cast<long>(sheet_length), read.end());
+    return Parted{Bytes(read.begin(), read.begin() + static_cast<long>(sheet_length)),
+                  Bytes(read.begin() + static_cast<long>(sheet_length), read.end())};
+}
+
+inline std::string judge_program(const Bytes& standard_input) {
+    // "a sheet, then a plan"
+    const Parted input = parted(first_2048(standard_input));
+    const Bytes& sheet_bytes = input.sheet;
+    const Bytes& plan_bytes = input.plan;
 
     const std::vector<uint32_t> words(128, 0);
     const JudgeAnswer answer = judge(sheet_bytes, plan_bytes, words);
@@ -1877,6 +1964,42 @@ inline std::string judge_program(const Bytes& standard_input) {
         }
     }
     return text;
+}
+
+// ---------------------------------------------------------------------------------------------
+// The program that says why a cart does not move. Document 02 has none: this is ours
+// ---------------------------------------------------------------------------------------------
+
+// What a program writes to standard output and to standard error.
+struct Printed {
+    std::string output, errors;
+};
+
+// After the sheet and the plan stand sixteen positions, the number of moves made, and the cart.
+constexpr size_t record_and_cart = 16 + 4 + 1;
+
+inline Printed why_program(const Bytes& standard_input) {
+    const Bytes read = first_2048(standard_input);
+    if (read.size() < record_and_cart) {
+        return Printed{"", "oblakosh: why_main takes a sheet, a plan, and 21 bytes of record and cart\n"};
+    }
+    const size_t before = read.size() - record_and_cart;
+    const Parted input = parted(Bytes(read.begin(), read.begin() + static_cast<long>(before)));
+    Record record;
+    for (size_t c = 0; c < 16; c++) record.positions[c] = read[before + c];
+    for (size_t i = 0; i < 4; i++) record.made = record.made * 256 + read[before + 16 + i];
+    const ChainAnswer answer = why(input.sheet, input.plan, record, read[before + 20]);
+    if (answer.number != 0) return Printed{refusal_line(answer), ""};
+    std::string text;
+    for (size_t i = 0; i < answer.links.size(); i++) {
+        text += "cart " + std::to_string(answer.links[i].cart);
+        if (i + 1 < answer.links.size()) {
+            text += " waits at zone " + std::to_string(answer.links[i].zone) + " for cart " + std::to_string(answer.links[i + 1].cart) + "\n";
+        } else {
+            text += answer.out ? " may move out\n" : " may move into zone " + std::to_string(answer.links[i].zone) + "\n";
+        }
+    }
+    return Printed{text, ""};
 }
 
 // ---------------------------------------------------------------------------------------------
@@ -1970,6 +2093,13 @@ inline std::string to_text(const MoveAnswer& a) {
     for (uint8_t position : a.record.positions) text += " " + std::to_string(position);
     text += " made " + std::to_string(a.record.made);
     return text;
+}
+
+// why NUMBER PLACE CART STEP chain K cart zone ... out O
+inline std::string to_text(const ChainAnswer& a) {
+    std::string text = to_text("why", a) + " chain " + std::to_string(a.links.size());
+    for (const ChainLink& link : a.links) text += " " + std::to_string(link.cart) + " " + std::to_string(link.zone);
+    return text + " out " + std::to_string(a.out ? 1 : 0);
 }
 
 }  // namespace independent

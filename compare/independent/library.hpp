@@ -42,7 +42,7 @@ public:
 // ---------------------------------------------------------------------------------------------
 
 enum Operation {
-    reading_sheet, reading_plan, writing, listing, judging, planning, planning_first, planning_better, asking, moving, operations
+    reading_sheet, reading_plan, writing, listing, judging, planning, planning_first, planning_better, asking, moving, telling_why, operations
 };
 
 // Answers counted by number, and by the cart and step of #104, both 0 where none is told.
@@ -67,17 +67,21 @@ struct Answers {
 struct Tally {
     Answers answers[operations];
     uint64_t rings[17] = {};             // by the number of their carts
+    uint64_t chains[17] = {};            // likewise
     uint64_t cut_sheets = 0;             // planned with a group cut
     uint64_t planners[cases::planners_situations] = {};
     uint64_t line[cases::line_situations] = {};
+    uint64_t chain[cases::chain_situations] = {};
 
     void count(Operation operation, const Outcome& outcome) { answers[operation].count(outcome); }
     void add(const Tally& other) {
         for (int o = 0; o < operations; o++) answers[o].add(other.answers[o]);
         for (int length = 0; length <= 16; length++) rings[length] += other.rings[length];
+        for (int length = 0; length <= 16; length++) chains[length] += other.chains[length];
         cut_sheets += other.cut_sheets;
         for (int s = 0; s < cases::planners_situations; s++) planners[s] += other.planners[s];
         for (int s = 0; s < cases::line_situations; s++) line[s] += other.line[s];
+        for (int s = 0; s < cases::chain_situations; s++) chain[s] += other.chain[s];
     }
 };
 
@@ -245,6 +249,15 @@ inline Parts parts_of(const oblakosh_asked& asked) {
     return parts;
 }
 
+inline Parts parts_of(const oblakosh_chain& chain) {
+    Parts parts(chain.outcome);
+    parts.add("length", chain.length);
+    parts.add("cart", chain.cart);
+    parts.add("zone", chain.zone);
+    parts.add("out", chain.out);
+    return parts;
+}
+
 // ---------------------------------------------------------------------------------------------
 // The independent program's answers in the header's form; unused entries are 0
 // ---------------------------------------------------------------------------------------------
@@ -343,6 +356,18 @@ inline oblakosh_asked as_declared(const independent::MoveAnswer& answer, uint64_
     return declared;
 }
 
+inline oblakosh_chain as_declared(const independent::ChainAnswer& answer) {
+    oblakosh_chain declared = {};
+    declared.outcome = outcome_of(answer);
+    declared.length = answer.links.size();
+    for (size_t i = 0; i < answer.links.size(); i++) {
+        declared.cart[i] = static_cast<uint8_t>(answer.links[i].cart);
+        declared.zone[i] = static_cast<uint8_t>(answer.links[i].zone);
+    }
+    declared.out = answer.out ? 1 : 0;
+    return declared;
+}
+
 // ---------------------------------------------------------------------------------------------
 // One case through both
 // ---------------------------------------------------------------------------------------------
@@ -387,6 +412,7 @@ public:
         for (const MoveRequest& request : c.move_requests) {
             try {
                 move(request);
+                why(request);
             } catch (const std::exception& found) {
                 throw Difference(text_of(request) + ", " + found.what());
             }
@@ -513,6 +539,19 @@ private:
         tally.count(moving, answer);
         if (answer.number != 23 && answer.number != 26) return;
         for (cases::LineSituation found : cases::line_situations_moved(readable.sheet, readable.lists, request, answer)) tally.line[found]++;
+    }
+
+    // Why says what asking refuses with 26, and answers where asking is done.
+    void why(const MoveRequest& request) {
+        const independent::ChainAnswer answer = independent::why(c.sheet, c.plan, request.record, request.cart);
+        const oblakosh_record record = as_declared(request.record);
+        must_be_same("oblakosh_why", answer, as_declared(answer),
+                     oblakosh_why(sheet.first(), sheet.size(), plan.first(), plan.size(), record, request.cart));
+        inputs_must_be_unchanged("oblakosh_why");
+        tally.count(telling_why, answer);
+        if (answer.number != 0) return;
+        tally.chains[answer.links.size()]++;
+        for (cases::ChainSituation found : cases::situations_of(readable.sheet, readable.lists, request.record, answer)) tally.chain[found]++;
     }
 };
 

@@ -1,4 +1,4 @@
-// The judge program and the planner program run as processes, each output held beside the independent program's.
+// The judge program, the planner program and the program that says why run as processes, each output held beside the independent program's.
 
 #ifndef PROGRAMS_HPP
 #define PROGRAMS_HPP
@@ -15,10 +15,12 @@ namespace programs {
 
 using independent::Bytes;
 using independent::Outcome;
+using independent::Printed;
 using library::Difference;
 
 constexpr const char* judge_path = "target/bin/judge_main";
 constexpr const char* planner_path = "target/bin/plan_main";
+constexpr const char* why_path = "target/bin/why_main";
 constexpr const char* folder = "target/compare/";
 
 inline std::string text_in(const std::string& file) {
@@ -27,10 +29,6 @@ inline std::string text_in(const std::string& file) {
 }
 
 inline std::string to_string(const Bytes& bytes) { return std::string(bytes.begin(), bytes.end()); }
-
-struct Printed {
-    std::string output, errors;
-};
 
 // What a shell command prints with this standard input.
 inline Printed run(const std::string& name, const std::string& command, const Bytes& input) {
@@ -71,6 +69,16 @@ inline Outcome compare_judge(const Bytes& input) {
     const std::string command = std::string(judge_path) + " && cat";
     must_print(command, input, Printed{text + left, ""}, run("judge", command, input));
     return outcome_in(text);
+}
+
+// The same of the program that says why; what it gives back where the input is too short is not said.
+inline Outcome compare_why(const Bytes& input) {
+    Printed wanted = independent::why_program(input);
+    const Outcome outcome = outcome_in(wanted.output);
+    wanted.output += to_string(input).substr(std::min<size_t>(input.size(), 2048));
+    const std::string command = std::string(why_path) + (wanted.errors.empty() ? " && cat" : "; cat");
+    must_print(command, input, wanted, run("why", command, input));
+    return outcome;
 }
 
 // The word that asks the planner program for this planner.

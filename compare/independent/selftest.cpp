@@ -343,6 +343,10 @@ static void run_case(Random& random, const Case& c, bool whole_run) {
         check((move.number == 26) == (move.ahead > 0), "carts ahead exactly with 26");
         if (move.number != 0) check(same_record(move.record, request.record), "refused: record as lent");
         check(passes_on(move, plan), "moving refuses as reading");
+        const ChainAnswer chain = why(c.sheet, c.plan, request.record, request.cart);
+        check(same_outcome(chain, move.number == 26 ? Outcome() : Outcome(move)), "why refuses as moving, but never with 26");
+        check(chain.number == 0 || (chain.links.empty() && !chain.out), "refused: no chain");
+        check(chain.number != 0 || (chain.links.size() > 1) == (move.number == 26), "a chain of one exactly if the cart may move");
     }
 
     const std::string text = judge_program(c.standard_input);
@@ -403,6 +407,7 @@ static void check_spoilt(const cases::SpoiltSheet& spoilt, const Bytes& plan) {
     check(same_outcome(list_zone(spoilt.bytes, plan, 0), wanted), "parts: the list operation");
     check(same_outcome(judge(spoilt.bytes, plan, std::vector<uint32_t>(128, 0)), wanted), "parts: judging");
     check(same_outcome(move_cart(spoilt.bytes, plan, Record(), 0), wanted), "parts: moving");
+    check(same_outcome(why(spoilt.bytes, plan, Record(), 0), wanted), "parts: why");
     for (Planner planner : {Planner::removal, Planner::first_come, Planner::better}) {
         check(same_outcome(make_plan(spoilt.bytes, Bytes(156, 0), planner), wanted), "parts: planning");
     }
@@ -514,6 +519,140 @@ static Searched search(const Sheet& sheet, const Lists& lists) {
         if (searched.end[cart] <= sheet.carts[cart].steps.size()) searched.all_out = false;
     }
     return searched;
+}
+
+// ---------------------------------------------------------------------------------------------
+// The chain of #105
+// ---------------------------------------------------------------------------------------------
+
+static uint64_t chain_seen[cases::chain_situations] = {};
+static uint64_t chain_lengths[17] = {};
+static uint64_t chain_links_frozen = 0;
+
+// Whether some run from here moves this cart while the other stands still.
+static bool moves_without(const Sheet& sheet, const Lists& lists, Positions positions, uint32_t cart, uint32_t still) {
+    const uint32_t before = positions[cart];
+    for (bool moved = true; moved;) {
+        moved = false;
+        for (uint32_t c = 0; c < sheet.carts.size(); c++) {
+            if (c == still || !may_move(sheet, lists, positions, c)) continue;
+            positions[c]++;
+            moved = true;
+        }
+    }
+    return positions[cart] > before;
+}
+
+// A chain in a record that a run reaches: from the cart on, each waits for the next, the last may move, and none stands in it twice.
+static void check_chain_of(const Sheet& sheet, const Lists& lists, const Record& record, uint32_t cart, const ChainAnswer& chain) {
+    Positions positions;
+    for (uint32_t c = 0; c < sheet.carts.size(); c++) positions.push_back(record.positions[c]);
+    check(chain.number == 0 && !chain.links.empty() && chain.links.size() <= sheet.carts.size(), "chain: a cart that is not out has one");
+    std::set<uint32_t> met;
+    for (size_t i = 0; i < chain.links.size(); i++) {
+        const uint32_t here = chain.links[i].cart;
+        const std::vector<Step>& route = sheet.carts[here].steps;
+        const std::vector<uint32_t> waited_for = waits_for(sheet, lists, positions, here);
+        check(here == cart, "chain: begun at the cart asked about, each held by the first that it waits for");
+        check(met.insert(here).second, "chain: no cart twice");
+        check(positions[here] <= route.size(), "chain: no cart that is out");
+        const bool out = positions[here] == route.size();
+        check(chain.links[i].zone == (out ? 0 : route[positions[here]].zone), "chain: the wanted zone");
+        if (i + 1 == chain.links.size()) {
+            check(may_move(sheet, lists, positions, here) && chain.out == out, "chain: the last may move, and how");
+        } else {
+            check(!waited_for.empty() && !out, "chain: each but the last is held, and by a zone or its lane");
+            cart = waited_for[0];
+            check(!moves_without(sheet, lists, positions, here, cart), "chain: no run moves a cart while the next stands still");
+            chain_links_frozen++;
+        }
+    }
+    chain_lengths[chain.links.size()]++;
+    for (cases::ChainSituation found : cases::situations_of(sheet, lists, record, chain)) chain_seen[found]++;
+}
+
+// #105 by hand.
+static void chain_examples() {
+    const Bytes A = cases::from_hex("01 000A 02 02 00 01 02 00 01");
+    const Bytes B = cases::from_hex("01 000A 02 02 00 01 02 01 00");
+    const auto text = [](const Bytes& sheet, const Bytes& plan, const Record& lent, uint32_t cart) {
+        return why_program(together(together(sheet, plan), cases::record_and_cart(lent, cart))).output;
+    };
+    check(text(S, A, record({0, 0}, 0), 0) == "cart 0 may move into zone 0\n", "chain: of one, into a zone");
+    check(text(S, A, record({0, 0}, 0), 1) == "cart 1 waits at zone 1 for cart 0\ncart 0 may move into zone 0\n", "chain: of two");
+    check(text(S, A, record({2, 0}, 2), 1) == "cart 1 waits at zone 1 for cart 0\ncart 0 may move out\n", "chain: to the move out");
+    check(text(S, A, record({2, 0}, 2), 0) == "cart 0 may move out\n", "chain: of one, out");
+    check(text(S, A, record({3, 0}, 3), 1) == "cart 1 may move into zone 1\n", "chain: a cart that waits no more");
+    check(text(S, A, record({1, 1}, 2), 0) == "refused 23 at 0\n", "chain: example 9's record");
+    check(text(S, A, record({3, 3}, 6), 0) == "refused 25 at 0\n" && text(S, A, record({3, 3}, 6), 2) == "refused 24 at 0\n", "chain: example 12's");
+    check(text(S, B, record({0, 0}, 0), 0) == "refused 22 at 0\n", "chain: a locked plan, and no ring printed");
+    check(text(S, {}, record({0, 0}, 0), 0) == "refused 15 at 0\n", "chain: no plan");
+    const Printed too_short = why_program(Bytes(20, 1));
+    check(too_short.output.empty() && too_short.errors == "oblakosh: why_main takes a sheet, a plan, and 21 bytes of record and cart\n",
+          "chain: 20 bytes");
+    check(why_program(Bytes(21, 0)).output == "refused 1 at 0\n", "chain: 21 bytes and no sheet");
+    check(why_program(together({2, 0, 1}, Bytes(21, 0))).output == "refused 2 at 0\n", "chain: bytes 1 and 2 say one byte is sheet");
+    check(why_program(together({1, 0, 4}, Bytes(21, 0))).output == "refused 3 at 1\n", "chain: the request is no part of the sheet");
+    Bytes told = S;
+    told[24] = 0;
+    check(text(told, A, Record(), 0) == "refused 11 at 24 cart 1 step 2\n", "chain: cart and step told");
+
+    // carts 0, 1 and 3 on lane 0, cart 2 on lane 1: cart 3's zone has cart 2 first, its lane cart 1
+    Sheet sheet;
+    sheet.zones = {Zone{7, 10}, Zone{7, 10}, Zone{7, 10}};
+    sheet.carts = {Cart{0, 0, {Step{0, 40, 0}}}, Cart{0, 0, {Step{1, 50, 0}}}, Cart{1, 0, {Step{2, 1000, 0}, Step{0, 1000, 0}}},
+                   Cart{0, 0, {Step{2, 5, 0}}}};
+    const Bytes bytes = cases::sheet_to_bytes(sheet);
+    const Bytes plan = cases::plan_to_bytes({{2, 0}, {1}, {2, 3}});
+    check(text(bytes, plan, Record(), 3) ==
+              "cart 3 waits at zone 2 for cart 1\n"
+              "cart 1 waits at zone 1 for cart 0\n"
+              "cart 0 waits at zone 0 for cart 2\n"
+              "cart 2 may move into zone 2\n",
+          "chain: the lane before the list");
+    check(text(bytes, plan, record({1, 1, 3, 0}, 5), 3) == "cart 3 may move into zone 2\n", "chain: the lane is left");
+    check(text(bytes, plan, record({0, 0, 2, 0}, 2), 3) ==
+              "cart 3 waits at zone 2 for cart 1\n"
+              "cart 1 waits at zone 1 for cart 0\n"
+              "cart 0 waits at zone 0 for cart 2\n"
+              "cart 2 may move out\n",
+          "chain: down two lane links to the move out");
+}
+
+// Chains made to have each length, each of their carts asked about; and all carts in records of random runs.
+static void check_chains() {
+    chain_examples();
+    Random random(105);
+    for (uint32_t length = 1; length <= 16; length++) {
+        for (int i = 0; i < 60; i++) {
+            const cases::Chained made = cases::random_chain(random, length);
+            const Bytes sheet = cases::sheet_to_bytes(made.sheet);
+            const Bytes plan = cases::plan_to_bytes(made.lists);
+            for (size_t first = 0; first < made.chain.size(); first++) {
+                const ChainAnswer chain = why(sheet, plan, made.record, made.chain[first]);
+                check(chain.links.size() == made.chain.size() - first, "chain: as long as it was made");
+                for (size_t k = 0; k < chain.links.size(); k++) check(chain.links[k].cart == made.chain[first + k], "chain: as it was made");
+                check_chain_of(made.sheet, made.lists, made.record, made.chain[first], chain);
+            }
+        }
+    }
+    for (uint32_t i = 0; i < 300; i++) {
+        const Sheet sheet = cases::random_sheet(random, i % 2 == 0 ? cases::large_shape() : cases::crowded_shape());
+        const Lists lists = cases::one_order_lists(random, sheet);
+        const Record now = cases::record_by_random_run(random, sheet, lists);
+        for (uint32_t cart = 0; cart < sheet.carts.size(); cart++) {
+            const ChainAnswer chain = why(cases::sheet_to_bytes(sheet), cases::plan_to_bytes(lists), now, cart);
+            const bool out = now.positions[cart] == sheet.carts[cart].steps.size() + 1;
+            check(chain.number == (out ? 25u : 0u), "chain: 25 exactly if the cart is out");
+            if (!out) check_chain_of(sheet, lists, now, cart, chain);
+        }
+    }
+    std::printf("selftest: chains by length");
+    for (int length = 1; length <= 16; length++) {
+        check(chain_lengths[length] > 0, "chain: every length");
+        std::printf(" %d: %llu", length, static_cast<unsigned long long>(chain_lengths[length]));
+    }
+    std::printf("; %llu links whose next cart stood still\n", static_cast<unsigned long long>(chain_links_frozen));
 }
 
 // ---------------------------------------------------------------------------------------------
@@ -727,6 +866,9 @@ static void check_line(LineCounts& counts, const Sheet& sheet, const Lists& list
             if (positions[cart] > sheet.carts[cart].steps.size()) number = 25;
             if (!reached) number = 23;
             check(answer.number == number && answer.ahead == (number == 26 ? holding : 0), "moving answers as the search says");
+            const ChainAnswer chain = why(bytes, plan, request.record, cart);
+            check(chain.number == (number == 26 ? 0 : number), "why answers as the search says, and never 26");
+            if (chain.number == 0) check_chain_of(sheet, lists, request.record, cart, chain);
             counts.requests++;
             for (cases::LineSituation found : cases::line_situations_moved(sheet, lists, request, answer)) line_seen[found]++;
         }
@@ -1098,10 +1240,14 @@ int main(int words, char** word) {
         for (int s = 0; s < cases::planners_situations; s++) {
             check(planners_seen[s] > 0, std::string("planners: never seen ") + cases::planners_situation_names[s]);
         }
+        check_chains();
         line_examples();
         check_line_on_small();
         for (int s = 0; s < cases::line_situations; s++) {
             check(line_seen[s] > 0, std::string("the stop line: never seen ") + cases::line_situation_names[s]);
+        }
+        for (int s = 0; s < cases::chain_situations; s++) {
+            check(chain_seen[s] > 0, std::string("chains: never seen ") + cases::chain_situation_names[s]);
         }
     } catch (const std::exception& error) {
         std::fprintf(stderr, "selftest: failed: %s\n", error.what());

@@ -21,6 +21,8 @@ void *raw_ask(void *answer, const uint8_t *s, size_t s_length, const uint8_t *p,
               size_t cart) RAW(ask);
 void *raw_move_cart(void *answer, const uint8_t *s, size_t s_length, const uint8_t *p, size_t p_length, oblakosh_record *record,
                     size_t cart) RAW(move_cart);
+void *raw_why(void *answer, const uint8_t *s, size_t s_length, const uint8_t *p, size_t p_length, oblakosh_record record,
+              size_t cart) RAW(why);
 
 static int failed = 0;
 
@@ -152,9 +154,20 @@ static void write_plan(crossing *c)
     put_length(&c->p);
 }
 
-/* No two neighbours are alike, in any table. Locked: each cart stands where the cart before it wants to go on, with two steps
-   each; else up to eight steps, and carts with higher numbers first in every zone. */
-static void make(crossing *c, int locked)
+/* Apart: carts of up to eight steps, those with higher numbers first in every zone. Locked: two steps each, and each cart stands
+   where the cart before it wants to go on. Held: the same, but the last cart has one step. */
+typedef enum { APART, LOCKED, HELD } kind;
+
+static uint8_t steps_of(kind of, int cart)
+{
+    if (of == APART) {
+        return (uint8_t)(1 + (5 * cart + 4) % 8);
+    }
+    return of == HELD && cart == OBLAKOSH_CARTS - 1 ? 1 : 2;
+}
+
+/* No two neighbours are alike, in any table. */
+static void make(crossing *c, kind of)
 {
     oblakosh_sheet *sheet = &c->sheet;
     memset(c, 0, sizeof *c);
@@ -167,17 +180,17 @@ static void make(crossing *c, int locked)
     for (int i = 0; i < OBLAKOSH_CARTS; i++) {
         sheet->lane[i] = (uint8_t)((7 * i + 3) % 16);
         sheet->arrival[i] = (uint32_t)(1000003 + 70001 * i);
-        sheet->steps[i] = (uint8_t)(locked ? 2 : 1 + (5 * i + 4) % 8);
+        sheet->steps[i] = steps_of(of, i);
         c->moves += sheet->steps[i] + 1u;
         for (int j = 0; j < sheet->steps[i]; j++) {
-            sheet->zone[i][j] = (uint8_t)(locked ? 8 + (i + j) % 16 : (5 * i + 7 * j + 1) % 24);
+            sheet->zone[i][j] = (uint8_t)(of == APART ? (5 * i + 7 * j + 1) % 24 : 8 + (i + j) % 16);
             sheet->passing[i][j] = (uint16_t)(10001 + 8 * i + j);
             sheet->travel[i][j] = (uint16_t)(j + 1 < sheet->steps[i] ? 20001 + 8 * i + j : 0);
         }
     }
     write_sheet(sheet, &c->s);
     for (int z = 0; z < OBLAKOSH_ZONES; z++) {
-        list_zone(c, z, locked ? (z + 8) % 16 : OBLAKOSH_CARTS - 1);
+        list_zone(c, z, of == APART ? OBLAKOSH_CARTS - 1 : (z + 8) % 16);
     }
     write_plan(c);
 }
@@ -187,7 +200,7 @@ static void make(crossing *c, int locked)
 #define SHEET(c) (c).s.bytes, (c).s.length
 #define PLAN(c) (c).p.bytes, (c).p.length
 
-static crossing apart, locked, refused;
+static crossing apart, locked, held, refused;
 static uint32_t words[OBLAKOSH_WORDS];
 
 #define IS_OUTCOME(outcome, wanted_number, wanted_cart, wanted_step, wanted_place) \
@@ -322,9 +335,9 @@ static void moving(void)
     IS(asked.made, 11u);
     IS(asked.ahead, 0u);
     raw_ask(blank(), SHEET(apart), PLAN(apart), at_start, 0);
-    TAKE(oblakosh_asked, held);
-    IS(held.outcome.number, (uint32_t)OBLAKOSH_CART_HELD);
-    IS(held.ahead, apart.orders.count[apart.sheet.zone[0][0]] - 1u);
+    TAKE(oblakosh_asked, waits);
+    IS(waits.outcome.number, (uint32_t)OBLAKOSH_CART_HELD);
+    IS(waits.ahead, apart.orders.count[apart.sheet.zone[0][0]] - 1u);
     raw_move_cart(blank(), SHEET(apart), PLAN(apart), &lent.record, 14);
     TAKE(oblakosh_asked, stored);
     IS_DONE(stored.outcome);
@@ -336,12 +349,39 @@ static void moving(void)
     TAKE(oblakosh_asked, not_moved);
     IS_REFUSED(not_moved.outcome);
 }
+
+/* Every cart stands in its first zone, the last in its only one: or the last is on its lane still. */
+static void telling_why(void)
+{
+    for (int out = 0; out < 2; out++) {
+        oblakosh_record record = {.made = OBLAKOSH_CARTS};
+        memset(record.position, 1, sizeof record.position);
+        if (!out) {
+            record.position[OBLAKOSH_CARTS - 1] = 0;
+            record.made--;
+        }
+        raw_why(blank(), SHEET(held), PLAN(held), record, 0);
+        TAKE(oblakosh_chain, chain);
+        IS_DONE(chain.outcome);
+        IS(chain.length, (size_t)OBLAKOSH_CARTS);
+        for (int k = 0; k < OBLAKOSH_CARTS; k++) {
+            IS(chain.cart[k], k);
+            IS(chain.zone[k], k + 1 < OBLAKOSH_CARTS ? 9 + k : out ? 0 : 23);
+        }
+        IS(chain.out, out);
+    }
+    oblakosh_record at_start = {0};
+    raw_why(blank(), SHEET(refused), PLAN(apart), at_start, 0);
+    TAKE(oblakosh_chain, not_told);
+    IS_REFUSED(not_told.outcome);
+}
 #endif
 
 int main(void)
 {
-    make(&apart, 0);
-    make(&locked, 1);
+    make(&apart, APART);
+    make(&locked, LOCKED);
+    make(&held, HELD);
     refused = apart;
     refused.s.bytes[LONG_PASSING] = 0xFF;
     reading_a_sheet();
@@ -354,6 +394,7 @@ int main(void)
     planning(raw_plan_better);
     finding_a_list();
     moving();
+    telling_why();
 #endif
     return failed;
 }

@@ -11,6 +11,7 @@ use Rattle.moves.specs.Runs.{greedy, end}
 use Rattle.moves.specs.Records.{isInRange, isClosed}
 use Rattle.moves.specs.Values.{put, workedOut}
 use Rattle.moves.specs.Rings.{leastFrom, between, ringFirst, ringRest}
+use Rattle.moves.specs.Chains.{heldFor}
 use Rattle.routes.specs.Lanes.{highest, nextInFront}
 use Rattle.routes.specs.Lists.{allBelow, placeOf, isAhead, firstOf}
 use Rattle.times.specs.Times.{largest, entering, finish}
@@ -36,13 +37,14 @@ use Rattle.planner.specs.Planning.{orderedBy, planned, planSheet, roomAfter}
 use Rattle.moving_record.specs.Record.{isReached}
 use Rattle.moving_asking.specs.Ahead.{countAhead, aheadOf}
 use Rattle.moving_asking.specs.Asking.{ask}
+use Rattle.moving_why.specs.Why.{chainFrom, why}
 use Rattle.moving.specs.Moving.{recordAfter}
-use Rattle.demands.specs.Examples.{firstCost, leavingTimes, Holds, examples, stopLine}
+use Rattle.demands.specs.Examples.{firstCost, leavingTimes, Holds, examples, stopLine, whyNot}
 
--- both tables, by computing
-both-hold : All Holds examples × All Holds stopLine
-unfolding firstCost leavingTimes planSheet roomAfter planned orderedBy ordersBy passingLists finalOrders decisions solved trial turn decide candidates while turns largestCost cost isTakenOver spareTime spareRule leastOf workedBack movesMade isOut enteringTime isUndecided goesBefore pairOrder isPair rank isDecided written listsBytes listBytes bytesOf sumBelow setBelow readSheet readPlan judge wordsAfter ask recordAfter aheadOf countAhead isReached isInRange isClosed lockedRing timeWords lowestStuck ringFrom nextInFront highest lowest isPermitted greedy end put workedOut leastFrom between ringFirst ringRest allBelow placeOf isAhead firstOf largest entering finish givenBy ordersOf sheetChecks zoneChecks stepChecks cartChecks laneChecks firstFailing fieldChecks value each entries anyBelow countBelow cartAt sheetOf countAt planChecks listChecks planCartChecks planLaneChecks
-both-hold = (
+-- all tables, by computing
+all-hold : All Holds examples × All Holds stopLine × All Holds whyNot
+unfolding firstCost leavingTimes planSheet roomAfter planned orderedBy ordersBy passingLists finalOrders decisions solved trial turn decide candidates while turns largestCost cost isTakenOver spareTime spareRule leastOf workedBack movesMade isOut enteringTime isUndecided goesBefore pairOrder isPair rank isDecided written listsBytes listBytes bytesOf sumBelow setBelow readSheet readPlan judge wordsAfter ask recordAfter why chainFrom heldFor aheadOf countAhead isReached isInRange isClosed lockedRing timeWords lowestStuck ringFrom nextInFront highest lowest isPermitted greedy end put workedOut leastFrom between ringFirst ringRest allBelow placeOf isAhead firstOf largest entering finish givenBy ordersOf sheetChecks zoneChecks stepChecks cartChecks laneChecks firstFailing fieldChecks value each entries anyBelow countBelow cartAt sheetOf countAt planChecks listChecks planCartChecks planLaneChecks
+all-hold = (
   (
     (refl, refl),
     (
@@ -87,11 +89,16 @@ both-hold = (
     ),
   ),
   ((refl, refl), ((refl, refl), ((refl, refl), tt))),
+  (refl, (refl, (refl, (refl, (refl, (refl, (refl, tt))))))),
 )
 
 pub examples-hold : All Holds examples
-examples-hold = both-hold .0
+examples-hold = all-hold .0
 
 -- rows of our own for request #102
 pub stop-line-holds : All Holds stopLine
-stop-line-holds = both-hold .1
+stop-line-holds = all-hold .1
+
+-- and for request #105
+pub why-not-holds : All Holds whyNot
+why-not-holds = all-hold .2

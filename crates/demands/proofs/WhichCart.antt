@@ -8,7 +8,7 @@ use lib.Dec.{lit<}
 use lib.ListN.{length}
 use Rattle.words.specs.Checks.{Check, check, done, refused, refusal}
 use Rattle.words.specs.declared.Outcome.{Outcome}
-use Rattle.words.proofs.Keeps.{Keeps, _with_, keeps-as, first-keeps}
+use Rattle.words.proofs.Keeps.{Keeps, one-keeps, _with_, keeps-as, first-keeps}
 use Rattle.sheet.specs.Told.{Told}
 use Rattle.sheet.specs.Checks.{sheetChecks}
 use Rattle.sheet.specs.Reading.{sheetOf}
@@ -17,10 +17,11 @@ use Rattle.plan.specs.Reading.{readingChecks}
 use Rattle.plan.proofs.Told.{plan-tells}
 use Rattle.plan_writer.specs.Writing.{writingChecks}
 use Rattle.plan_zone_list.specs.Finding.{findingChecks}
-use Rattle.judge.specs.Judging.{judgingChecks}
+use Rattle.judge.specs.Judging.{ordersRead, judgingChecks}
 use Rattle.planner.specs.Planning.{planned, planningChecks}
 use Rattle.moving_record.specs.declared.Record.{Record}
-use Rattle.moving_asking.specs.Asking.{movingChecks}
+use Rattle.moving_asking.specs.Asking.{recordChecks, movingChecks}
+use Rattle.moving_why.specs.Why.{chainFrom, whyChecks}
 use Rattle.demands.specs.DemandOne.{AnswersOrRefuses, answers, refuses}
 use Rattle.demands.specs.WhichCart.{CartTold}
 
@@ -51,11 +52,14 @@ module _ (s : List ℕ) where
     judging-keeps : (room : ℕ) → Keeps Tells (judgingChecks s p room)
     judging-keeps room = reading-keeps with record { all = (own 22 (lit< tt), (own 28 (lit< tt), tt)) }
 
+    record-keeps : (lent : Record) (cart : ℕ) → Keeps Tells (recordChecks (sheetOf s) (ordersRead s p) lent cart)
+    record-keeps lent cart = record { all = (own 22 (lit< tt), (own 23 (lit< tt), (own 24 (lit< tt), (own 25 (lit< tt), tt)))) }
+
     moving-keeps : (lent : Record) (cart : ℕ) → Keeps Tells (movingChecks s p lent cart)
-    moving-keeps lent cart =
-        reading-keeps with record {
-          all = (own 22 (lit< tt), (own 23 (lit< tt), (own 24 (lit< tt), (own 25 (lit< tt), (own 26 (lit< tt), tt)))));
-        }
+    moving-keeps lent cart = reading-keeps with (record-keeps lent cart with one-keeps (own 26 (lit< tt)))
+
+    why-keeps : (lent : Record) (cart : ℕ) → Keeps Tells (whyChecks s p lent cart)
+    why-keeps lent cart = reading-keeps with record-keeps lent cart
 
   -- answers that tell their outcome: a refusal its own, the others done
   told : {R : Type 0} (outcome : R → Outcome) {refuse : Outcome → R} {answer : R} {checks : List Check} → ((o : Outcome) → outcome (refuse o) ≡ o)
@@ -64,7 +68,7 @@ module _ (s : List ℕ) where
   told outcome same is-done keeps r (refuses c f e) = rw (ap outcome e ∙ same (refusal c)) (first-keeps keeps f)
 
 pub cart-told : CartTold
-unfolding planned
+unfolding planned chainFrom
 cart-told =
     record {
       sheet-read = λ s r. told s (λ x. x .outcome) (λ _. refl) refl (sheet-keeps s) r;
@@ -74,5 +78,6 @@ cart-told =
       judged = λ s p words r after h. told s (λ x. x .outcome) (λ _. refl) refl (judging-keeps s p (length words)) r (h .answer);
       planned = λ rule s room r after h. told s (λ x. x .outcome) (λ _. refl) refl (planning-keeps s (length room)) r (h .answer);
       asked = λ s p lent cart r. told s (λ x. x .outcome) (λ _. refl) refl (moving-keeps s p lent cart) r;
+      why-told = λ s p lent cart r. told s (λ x. x .outcome) (λ _. refl) refl (why-keeps s p lent cart) r;
       moved = λ s p lent cart r after h. told s (λ x. x .outcome) (λ _. refl) refl (moving-keeps s p lent cart) r (h .answer);
     }

@@ -12,8 +12,9 @@ use Rattle.planner.specs.declared.Planned.{Planned}
 use Rattle.planner.specs.declared.Rule.{Rule}
 use Rattle.moving_record.specs.declared.Record.{Record}
 use Rattle.moving_asking.specs.declared.Asked.{Asked}
+use Rattle.moving_why.specs.declared.Chain.{Chain}
 use Rattle.demands.specs.DemandOne.{ReadingASheet, ReadingAPlan, WritingAgain, FindingAList, JudgingAPlan, PlanningASheet}
-use Rattle.demands.specs.DemandOne.{AskingToMove, MovingACart}
+use Rattle.demands.specs.DemandOne.{AskingToMove, AskingWhy, MovingACart}
 
 -- of each public operation that tells an outcome, for every input, by demand 1's promise alone
 pub record CartTold : Type 0 where
@@ -24,4 +25,5 @@ pub record CartTold : Type 0 where
   pub judged : (s p words : List ℕ) (r : Judged) (after : List ℕ) → JudgingAPlan s p words r after → Told s (r .outcome)
   pub planned : (rule : Rule) (s room : List ℕ) (r : Planned) (after : List ℕ) → PlanningASheet rule s room r after → Told s (r .outcome)
   pub asked : (s p : List ℕ) (lent : Record) (cart : ℕ) (r : Asked) → AskingToMove s p lent cart r → Told s (r .outcome)
+  pub why-told : (s p : List ℕ) (lent : Record) (cart : ℕ) (r : Chain) → AskingWhy s p lent cart r → Told s (r .outcome)
   pub moved : (s p : List ℕ) (lent : Record) (cart : ℕ) (r : Asked) (after : Record) → MovingACart s p lent cart r after → Told s (r .outcome)

@@ -9,11 +9,10 @@ use lib.ListN.{getD}
 use borrow.Author.Tests.{lt-ltb, le-ltb}
 use Rattle.words.specs.Lists.{pick, entries}
 use Rattle.sets.specs.inner.Member.{has}
-use Rattle.moves.specs.System.{carts, pos}
+use Rattle.moves.specs.System.{pos}
 use Rattle.routes.specs.Lists.{firstOf}
 use Rattle.routes.specs.Crossing.{zone}
 use Rattle.routes.specs.Lanes.{laneHolds}
-use Rattle.routes.specs.Moves.{system}
 use Rattle.routes.specs.Plans.{pointsTo}
 use Rattle.sheet.specs.Valid.{Valid}
 use Rattle.sheet.specs.declared.Sheet.{Sheet}
@@ -22,13 +21,13 @@ use Rattle.plan.specs.Written.{count, listed}
 use Rattle.plan.specs.declared.Orders.{Orders}
 use Rattle.plan.proofs.Visitors.{step-cart, visitors-most}
 use Rattle.plan.proofs.Lists.{listed-cart}
-use Rattle.crossing.specs.inner.Tables.{crossingBy, sheetFronts, sheetCrossing, LeftSet}
+use Rattle.crossing.specs.inner.Tables.{sheetFronts, sheetCrossing, LeftSet}
 use Rattle.crossing.specs.Plans.{routesOf, listsOf, planCrossing}
-use Rattle.crossing.proofs.Tables.{carts-16}
 use Rattle.crossing.proofs.Fronts.{fronts-16}
 use Rattle.judge_ring.specs.Ring.{ringBy, ringOf}
 use Rattle.judge_ring.specs.inner.Tables.{wantedIn, Wanting, pointIn, Listable, AllListable}
 use Rattle.judge_ring.proofs.Same.{ring-same}
+use Rattle.judge.proofs.Verdict.{plan-carts}
 use Rattle.judge.proofs.Pointing.{wanted-is, points-is}
 
 pick-below : (b : Bool) {most x y : ℕ} → x < most → y < most → pick b x y < most
@@ -75,7 +74,7 @@ module _ (sheet : Sheet) (v : Valid sheet) (at : List ℕ) where
             record { few = omega (arith, none); cart = λ k h. absurd (omega (arith, none, h)) }
 
     module _ (left : List ℕ) (left-is : (z : ℕ) → LeftSet (sheetCrossing sheet (orders .ahead)) at z (getD left z 0)) where
-      point-below : (c : ℕ) → c < 16 → pointIn (sheet .steps) (sheet .zone) (sheetFronts sheet) (orders .count) (orders .list) at left c < 16
+      pub point-below : (c : ℕ) → c < 16 → pointIn (sheet .steps) (sheet .zone) (sheetFronts sheet) (orders .count) (orders .list) at left c < 16
       point-below c few =
           let z = wantedIn (sheet .steps) (sheet .zone) at c in
           let l : z < 24 = omega (arith, wanted-below c, v .zones-most) in
@@ -83,20 +82,18 @@ module _ (sheet : Sheet) (v : Valid sheet) (at : List ℕ) where
           (first-below (λ d. not (has (getD left z 0) d)) (listed orders z) 16 (count orders z) 0 (omega arith)
           (λ k _ b. orders-listable z l .cart k (omega (arith, b))))
 
-      plan-carts : carts (system (planCrossing sheet orders)) ≡ 16
-      unfolding crossingBy
-      plan-carts = carts-16 (sheet .steps) (sheet .zone) (sheetFronts sheet) (orders .ahead)
+      -- where the carts stand at `at`, the tables tell whom each points to
+      pub point-same : (c : ℕ) → c < 16 → pointIn (sheet .steps) (sheet .zone) (sheetFronts sheet) (orders .count) (orders .list) at left c
+          ≡ pointsTo (planCrossing sheet orders .front) (routesOf sheet) (listsOf sheet orders) at c
+      point-same c few = points-is sheet orders at v w left left-is c few (wanted-below c)
 
       pub ring-is : (c : ℕ) → c < 16
           → ringBy (pointIn (sheet .steps) (sheet .zone) (sheetFronts sheet) (orders .count) (orders .list) at left)
           (wantedIn (sheet .steps) (sheet .zone) at) 16 c
           ≡ ringOf (planCrossing sheet orders .front) (routesOf sheet) (listsOf sheet orders) at c
       ring-is c h =
-          ring-same _ points _ (λ d. zone (planCrossing sheet orders) d (pos at d)) 16
-          (λ d l. points-is sheet orders at v w left left-is d l (wanted-below d))
-          point-below
-          (λ d l. wanted-is sheet orders at d l) c h
-          ∙ ap (λ (n : ℕ). ringBy points (λ d. zone (planCrossing sheet orders) d (pos at d)) n c) (sym plan-carts)
+          ring-same _ points 16 point-same point-below _ (λ d. zone (planCrossing sheet orders) d (pos at d)) (λ d l. wanted-is sheet orders at d l) c h
+          ∙ ap (λ (n : ℕ). ringBy points (λ d. zone (planCrossing sheet orders) d (pos at d)) n c) (sym (plan-carts sheet orders))
         where
           points : ℕ → ℕ
           points = pointsTo (planCrossing sheet orders .front) (routesOf sheet) (listsOf sheet orders) at

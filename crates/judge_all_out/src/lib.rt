@@ -1,6 +1,5 @@
 // Whether all carts come out: the run alone, for requests to move, which ask for no times.
 use judge_entering::Lanes;
-use judge_entering::lanes;
 use judge_one_move::join;
 use judge_one_move::may_enter;
 use judge_one_move::may_go_in;
@@ -85,17 +84,16 @@ fn turn_of(
 }
 
 // Whether all carts come out when permitted moves are made until none is left; no times are worked out.
-pub fn all_out(sheet: &Table, ahead: &[u16; 128]) -> bool
-    requires { ⌜ Sound (crossingOf (now sheet) (now ahead)) (givenOf (now sheet)) ⌝ }
+pub fn all_out(sheet: &Table, lanes: &Lanes, ahead: &[u16; 128]) -> bool
+    requires { ⌜ Sound (crossingOf (now sheet) (now ahead)) (givenOf (now sheet)) × (now lanes ≡ lanesOf (now sheet)) ⌝ }
     ensures { λ r. ⌜ r ≡ isOut (crossingOf (now (sheet .entry)) (now (ahead .entry))) ⌝ }
 {
-    let lanes = lanes(sheet);
     let mut at = [0u8; 16];
     let mut left = [0u16; 24];
     let mut inside = present(sheet);
     let mut moved = true;
     while moved {
-        let turn = turn_of(sheet, &lanes, ahead, &mut at, &mut left, inside);
+        let turn = turn_of(sheet, lanes, ahead, &mut at, &mut left, inside);
         inside = turn.inside;
         moved = turn.moved;
     }

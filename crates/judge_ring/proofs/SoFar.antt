@@ -6,29 +6,16 @@ use mathlib.Core.List.{List, _∷_, map}
 use native.Mathlib.Omega.{arith}
 use native.Mathlib.Numerals.{add-one}
 use native.Mathlib.Decide.{decLt, ℕ-discrete}
-use lib.ListN.{length, getD, set, replicate, List·getD-eq-default}
-use lib.Dec.{ltb}
-use borrow.Author.Tests.{lt-ltb, le-ltb}
-use Rattle.words.specs.Lists.{pick, entries, table}
-use Rattle.words.proofs.Entries.{length-entries, at-entry, same-entries}
+use lib.ListN.{length, set, replicate}
+use Rattle.words.specs.Lists.{entries, table}
+use Rattle.words.proofs.Entries.{length-entries}
 use Rattle.words.proofs.Filling.{table-none, table-next}
 use Rattle.moves.specs.Rings.{follow, leastFrom, ringFirst, ringRest}
 use Rattle.moves.proofs.Pointing.{Repeats, follow-repeats}
 use Rattle.judge_ring.specs.Ring.{ringFrom, ringBy, sixteen}
 use Rattle.judge_ring.specs.inner.Tables.{ByTable, byTable}
+use Rattle.judge_ring.proofs.Sixteen.{map-entries, sixteen-filled}
 use Rattle.judge_ring.proofs.Rounds.{between-is, ring-turn}
-
-map-entries : (wanted rule : ℕ → ℕ) (n i : ℕ) → map wanted (entries n i rule) ≡ entries n i (λ x. wanted (rule x))
-unfolding entries
-map-entries wanted rule zero i = refl
-map-entries wanted rule (suc n) i = ap (λ (l : List ℕ). wanted (rule i) ∷ l) (map-entries wanted rule n (i + 1))
-
-sixteen-filled : (rule : ℕ → ℕ) (n : ℕ) → sixteen (entries n 0 rule) ≡ table 16 n rule
-sixteen-filled rule n = same-entries 16 _ _ λ x _. go x (decLt x n)
-  where
-    go : (x : ℕ) → Dec (x < n) → getD (entries n 0 rule) x 0 ≡ pick (ltb x n) (rule x) 0
-    go x (yes l) = at-entry n rule x l ∙ sym (rw (lt-ltb x n l))
-    go x (no m) = List·getD-eq-default (entries n 0 rule) 0 {n = x} (omega (arith, m, length-entries n 0 rule)) ∙ sym (rw (le-ltb x n (omega (arith, m))))
 
 pub first-is : (to : List ℕ) (c far first : ℕ) → far ≡ follow (byTable to) 16 c → first ≡ leastFrom (byTable to) 16 far → first ≡ ringFirst (byTable to) 16 c
 unfolding ringFirst

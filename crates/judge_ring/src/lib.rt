@@ -37,7 +37,7 @@ pub fn no_ring() -> Ring
 }
 
 // The zone that cart c wants at its position; 0 where it wants none.
-fn wanted_zone(sheet: &Table, at: &[u8; 16], c: usize) -> usize
+pub fn wanted_zone(sheet: &Table, at: &[u8; 16], c: usize) -> usize
     requires { ⌜ (c < 16) × (getD (steps (now sheet)) c 0 ≤ 8) × (wantedIn (steps (now sheet)) (zone (now sheet)) (now at) c < 24) ⌝ }
     ensures { λ r. ⌜ r ≡ wantedIn (steps (now (sheet .entry))) (zone (now (sheet .entry))) (now (at .entry)) c ⌝ }
 {
@@ -96,7 +96,7 @@ fn least_from(to: &[u8; 16], c: usize) -> usize
 }
 
 // The zone that each cart wants.
-fn wanted_zones(sheet: &Table, at: &[u8; 16]) -> [u8; 16]
+pub fn wanted_zones(sheet: &Table, at: &[u8; 16]) -> [u8; 16]
     requires { ⌜ Wanting (steps (now sheet)) (zone (now sheet)) (now at) ⌝ }
     ensures { λ r. ⌜ r ≡ entries 16 0 (wantedIn (steps (now (sheet .entry))) (zone (now (sheet .entry))) (now (at .entry))) ⌝ }
 {
@@ -110,7 +110,7 @@ fn wanted_zones(sheet: &Table, at: &[u8; 16]) -> [u8; 16]
 }
 
 // The cart that cart c points to: the one in front where the lane holds it, else the first in the wanted zone's list which has not left it.
-fn points_to<'a>(
+pub fn points_to<'a>(
     sheet: &Table,
     lanes: &Lanes,
     count: &'a [u8; 24],

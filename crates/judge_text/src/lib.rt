@@ -16,7 +16,7 @@ ghost use Rattle.words.specs.Lists.{pick};
 ghost use Rattle.judge_text.specs.inner.Input.{sheetLength};
 
 // How many of the bytes are the sheet.
-fn sheet_length(input: &[u8]) -> usize
+pub fn sheet_length(input: &[u8]) -> usize
     ensures { λ r. ⌜ (r ≡ sheetLength (now (input .entry))) × (r ≤ length (now (input .entry))) ⌝ }
 {
     let Field::Value(n, _) = two_bytes(input, outside(1)) else {
@@ -36,7 +36,7 @@ fn next_of(k: usize, n: usize) -> usize
     if k + 1 < n { k + 1 } else { 0 }
 }
 
-fn show_wait(cart: u8, zone: u8, next: u8) {
+pub fn show_wait(cart: u8, zone: u8, next: u8) {
     put(b"cart ", cart as u64);
     put(b" waits at zone ", zone as u64);
     put(b" for cart ", next as u64);

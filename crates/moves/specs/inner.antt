@@ -5,3 +5,4 @@ pub mod Runs
 pub mod Records
 pub mod Cycles
 pub mod Rings
+pub mod Chains

@@ -24,16 +24,19 @@ abbrev pub hasMoved : Record → ℕ → Asked
 hasMoved lent cart = record { outcome = done; position = pos (lent .position) cart + 1; made = lent .made + 1; ahead = 0 }
 
 module _ (sheet : Sheet) (orders : Orders) (lent : Record) (cart : ℕ) where
-  -- "plan is locked", "no run of this plan reaches the lent record", "cart number m or more", "cart is already out", "cart is held"
-  abbrev pub requestChecks : List Check
-  requestChecks =
+  -- of the record and the cart: "plan is locked", "no run of this plan reaches the lent record", "cart number m or more", "cart is already out"
+  abbrev pub recordChecks : List Check
+  recordChecks =
       let S = planSystem sheet orders in
       check 22 0 (isOut sheet orders)
       ∷ check 23 0 (isReached S lent)
       ∷ check 24 0 (ltb cart (sheet .carts))
       ∷ check 25 0 (isNotOut S (lent .position) cart)
-      ∷ check 26 0 (isPermitted S (lent .position) cart)
       ∷ []
+
+  -- and of its move: "cart is held"
+  abbrev pub requestChecks : List Check
+  requestChecks = recordChecks ++ (check 26 0 (isPermitted (planSystem sheet orders) (lent .position) cart) ∷ [])
 
   -- "On refusal every other part of the answer is 0", but "26 also tells how many carts ahead have not left the wanted zone",
   -- and "adds one if the lane holds the cart"

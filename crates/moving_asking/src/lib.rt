@@ -17,9 +17,9 @@ ghost use mathlib.Core.Path.{_≡_};
 ghost use Rattle.sheet_table.specs.inner.Parts.{zone};
 ghost use Rattle.crossing.specs.inner.Tables.{crossingOf};
 ghost use Rattle.judge_entering.specs.inner.Lanes.{lanesOf};
-ghost use Rattle.moving_asking.specs.inner.Tables.{WantsZone, notGone, heldBy, noMove};
+ghost use Rattle.moving_asking.specs.inner.Tables.{WantsZone, notGone, heldBy, noMove, untested};
 ghost use Rattle.moving_asking.specs.Asking.{ask};
-ghost use Rattle.moving_asking.specs.inner.Held.{Askable, AskedIn};
+ghost use Rattle.moving_asking.specs.inner.Held.{Askable, TestedIn, AskedIn};
 
 // What a request is answered: done with the cart's new position and the new count, or a refusal with both 0.
 // Only a cart that is held is told how many carts ahead have not left the zone that it wants, with one more if the lane holds it.
@@ -73,27 +73,66 @@ fn carts_ahead(
     n
 }
 
-// A request under a readable plan, of m carts:
-// the plan is not locked (22), a run reaches the record (23), and the cart is on the sheet (24), not out (25) and not held (26).
+// What the checks of a lent record and of a cart in it say: done, with for each zone the carts that have left it, or the first that fails.
+pub struct CartTested {
+    pub outcome: Outcome,
+    pub left: [u16; 24],
+}
+
+// A refusal: no set is told.
+fn untested(outcome: Outcome) -> CartTested
+    ensures { λ r. ⌜ r ≡ untested outcome ⌝ }
+{
+    CartTested {
+        outcome,
+        left: [0u16; 24],
+    }
+}
+
+// Under a readable plan of m carts: the plan is not locked (22), a run reaches the record (23), and the cart is on the sheet (24) and not out (25).
+pub fn test_cart(
+    sheet: &Table,
+    lanes: &Lanes,
+    ahead: &[u16; 128],
+    m: usize,
+    lent: Record,
+    cart: usize,
+) -> CartTested
+    requires { ⌜ Askable (now sheet) (now ahead) m × (now lanes ≡ lanesOf (now sheet)) ⌝ }
+    ensures { λ r. ⌜ TestedIn (now (sheet .entry)) (now (ahead .entry)) m lent cart r ⌝ }
+{
+    if !all_out(sheet, lanes, ahead) {
+        return untested(refused(22, 0));
+    }
+    let tested = test_record(sheet, lanes, ahead, lent);
+    if !tested.reached {
+        return untested(refused(23, 0));
+    }
+    if m <= cart {
+        return untested(refused(24, 0));
+    }
+    if sheet_table::steps(sheet, cart) < wide(lent.position[cart]) {
+        return untested(refused(25, 0));
+    }
+    let left = tested.left;
+    CartTested {
+        outcome: done(),
+        left,
+    }
+}
+
+// A request under a readable plan, of m carts: the checks of the record and the cart, and the cart is not held (26).
 fn ask_plan(sheet: &Table, ahead: &[u16; 128], m: usize, lent: Record, cart: usize) -> Asked
     requires { ⌜ Askable (now sheet) (now ahead) m ⌝ }
     ensures { λ r. ⌜ AskedIn (now (sheet .entry)) (now (ahead .entry)) m lent cart r ⌝ }
 {
-    if !all_out(sheet, ahead) {
-        return no_move(refused(22, 0), 0);
-    }
     let lanes = lanes(sheet);
-    let tested = test_record(sheet, &lanes, ahead, lent);
-    if !tested.reached {
-        return no_move(refused(23, 0), 0);
-    }
-    if m <= cart {
-        return no_move(refused(24, 0), 0);
+    let tested = test_cart(sheet, &lanes, ahead, m, lent, cart);
+    let outcome = tested.outcome;
+    if outcome.number != 0 {
+        return no_move(outcome, 0);
     }
     let at = lent.position;
-    if sheet_table::steps(sheet, cart) < wide(at[cart]) {
-        return no_move(refused(25, 0), 0);
-    }
     let left = tested.left;
     if !may_move(sheet, &lanes, ahead, &at, &left, cart) {
         return no_move(

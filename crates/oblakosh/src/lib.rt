@@ -3,6 +3,7 @@
 use judge::Judged;
 use moving_asking::Asked;
 use moving_record::Record;
+use moving_why::Chain;
 use plan::PlanRead;
 use plan_writer::PlanWritten;
 use plan_zone_list::ListFound;
@@ -18,6 +19,7 @@ ghost use Rattle.plan_zone_list.specs.Finding.{FoundIs};
 ghost use Rattle.planner.specs.Planning as planning;
 ghost use Rattle.planner.specs.declared.Rule.the-variants.{Removal, First, Better};
 ghost use Rattle.moving_asking.specs.Asking.{ask};
+ghost use Rattle.moving_why.specs.Why.{why};
 
 // Reading a sheet: 1 to 14.
 #[no_mangle]
@@ -94,4 +96,12 @@ pub extern "C" fn oblakosh_ask(s: &[u8], p: &[u8], lent: Record, cart: usize) ->
     ensures { λ r. ⌜ r ≡ ask (now (s .entry)) (now (p .entry)) lent cart ⌝ }
 {
     moving_asking::ask(s, p, lent, cart)
+}
+
+// Why a cart does not move: the chain from it down to one that may move now: 1 to 25.
+#[no_mangle]
+pub extern "C" fn oblakosh_why(s: &[u8], p: &[u8], lent: Record, cart: usize) -> Chain
+    ensures { λ r. ⌜ r ≡ why (now (s .entry)) (now (p .entry)) lent cart ⌝ }
+{
+    moving_why::why(s, p, lent, cart)
 }

@@ -381,3 +381,57 @@ pub fn move_cart(
         )
     })
 }
+
+/// Why a cart does not move: the carts from it down to one that may move now.
+#[cfg(feature = "controller")]
+#[derive(Clone, Copy, Debug, PartialEq, Eq)]
+pub struct Chain {
+    length: usize,
+    cart: [u8; CARTS],
+    zone: [u8; CARTS],
+    out: bool,
+}
+
+#[cfg(feature = "controller")]
+impl Chain {
+    /// The chain's carts, begun at the one asked about: each is held by the next, and the last may move. A cart on the lane is
+    /// held by the one in front while that has not moved, otherwise each by the first of its zone's list that has not left it.
+    /// No cart stands in it twice.
+    pub fn carts(&self) -> &[u8] {
+        &self.cart[..self.length]
+    }
+
+    /// The zone that each of them wants; of the last one there is none if it is to move out.
+    pub fn zones(&self) -> &[u8] {
+        &self.zone[..self.length - usize::from(self.out)]
+    }
+
+    /// Whether the last one's move is the move out.
+    pub fn moves_out(&self) -> bool {
+        self.out
+    }
+}
+
+/// The chain from the cart down to one that may move now, of one cart if it may itself; or 1 to 25, as [`move_cart`] refuses.
+/// Refusal 26 is never given.
+#[cfg(feature = "controller")]
+pub fn why(sheet: &[u8], plan: &[u8], record: Record, cart: usize) -> Result<Chain, Refusal> {
+    // SAFETY: a slice is memory of its length that may be read; the record goes by value, and nothing is written.
+    let told = unsafe {
+        linked::oblakosh_why(
+            sheet.as_ptr(),
+            sheet.len(),
+            plan.as_ptr(),
+            plan.len(),
+            record,
+            cart,
+        )
+    };
+    let chain = Chain {
+        length: told.length,
+        cart: told.cart,
+        zone: told.zone,
+        out: told.out == 1,
+    };
+    answered(told.outcome, chain)
+}

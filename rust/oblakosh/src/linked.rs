@@ -1,7 +1,7 @@
 //! include/oblakosh.h once more, with the same layout below: `compare/link/run` holds the two to each other and to the libraries.
-#[cfg(feature = "controller")]
-use crate::Record;
 use crate::{Orders, Ring, Sheet};
+#[cfg(feature = "controller")]
+use crate::{Record, CARTS};
 use std::mem::{offset_of, size_of};
 
 #[repr(C)]
@@ -64,6 +64,16 @@ pub struct Asked {
     pub position: u8,
     pub made: u32,
     pub ahead: u32,
+}
+
+#[cfg(feature = "controller")]
+#[repr(C)]
+pub struct Chain {
+    pub outcome: Outcome,
+    pub length: usize,
+    pub cart: [u8; CARTS],
+    pub zone: [u8; CARTS],
+    pub out: u8,
 }
 
 extern "C" {
@@ -135,6 +145,14 @@ extern "C" {
         lent: *mut Record,
         cart: usize,
     ) -> Asked;
+    pub fn oblakosh_why(
+        s: *const u8,
+        s_length: usize,
+        p: *const u8,
+        p_length: usize,
+        lent: Record,
+        cart: usize,
+    ) -> Chain;
 }
 
 /// The size of the field that such a function borrows.
@@ -172,3 +190,5 @@ layout!(ListFound 32: outcome 0 16, start 16 8, length 24 8);
 layout!(Record 20: position 0 16, made 16 4);
 #[cfg(feature = "controller")]
 layout!(Asked 32: outcome 0 16, position 16 1, made 20 4, ahead 24 4);
+#[cfg(feature = "controller")]
+layout!(Chain 64: outcome 0 16, length 16 8, cart 24 16, zone 40 16, out 56 1);

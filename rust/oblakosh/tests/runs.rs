@@ -140,17 +140,6 @@ fn carts_come_out_whoever_asks_first() {
     assert!([0, 23, 24, 25, 26].iter().all(|number| seen[*number] > 0));
 }
 
-/// All positions of the crossing's carts, from the lane to one past out.
-fn all_positions(crossing: &Crossing) -> Vec<Vec<usize>> {
-    (0..crossing.carts()).fold(vec![vec![]], |positions, cart| {
-        let extended = |at: &Vec<usize>, k| at.iter().copied().chain([k]).collect();
-        positions
-            .iter()
-            .flat_map(|at| (0..=crossing.out(cart) + 1).map(move |k| extended(at, k)))
-            .collect()
-    })
-}
-
 #[test]
 fn a_record_is_taken_exactly_if_a_search_of_all_runs_finds_it() {
     let mut numbers = Numbers(23);
@@ -159,7 +148,7 @@ fn a_record_is_taken_exactly_if_a_search_of_all_runs_finds_it() {
         let crossing = Crossing::random(&mut numbers, 3, 3, 3).listed_anyhow(&mut numbers);
         let reached = crossing.reached();
         let mut controller = Controller::new(&crossing, &mut numbers, &mut seen);
-        for at in all_positions(&crossing) {
+        for at in crossing.all_positions() {
             let record = crossing.record(&at);
             for cart in 0..=crossing.carts() {
                 let expected = crossing.answer_for(&reached, &record, cart);

@@ -2,13 +2,17 @@
 use Prim.Native.Nat.{ℕ, _+_, _*_, _<_}
 use mathlib.Core.Bool.{not, _&&_}
 use mathlib.Core.List.{List}
-use lib.ListN.{getD}
+use lib.ListN.{getD, replicate}
 use Rattle.words.specs.declared.Outcome.{Outcome}
 use Rattle.sets.specs.inner.Member.{has}
 use Rattle.sets.specs.Counting.{bit, countBelow}
 use Rattle.routes.specs.Crossing.{Crossing}
 use Rattle.routes.specs.Lanes.{laneHolds}
 use Rattle.moving_asking.specs.declared.Asked.{Asked}
+use Rattle.moving_asking.specs.declared.CartTested.{CartTested}
+
+abbrev pub untested : Outcome → CartTested
+untested outcome = record { outcome = outcome; left = replicate 24 0 }
 
 abbrev pub noMove : Outcome → ℕ → Asked
 noMove outcome ahead = record { outcome = outcome; position = 0; made = 0; ahead = ahead }

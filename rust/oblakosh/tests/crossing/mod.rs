@@ -1,4 +1,6 @@
-//! Document 01's sheets, plans and moves with #102's stop line in the plainest form, and random ones: nothing here calls the library.
+//! Document 01's sheets, plans and moves with #102's stop line in the plainest form, #105's chain, and random ones: nothing here calls the
+//! library.
+#![allow(dead_code)] // no test uses all of it
 use crate::numbers::Numbers;
 use oblakosh::{Moved, NotMoved, Record, Refusal, CARTS};
 use std::collections::HashSet;
@@ -11,6 +13,13 @@ pub struct Crossing {
     pub routes: Vec<Vec<usize>>,
     /// Each zone's carts, first through first.
     pub lists: Vec<Vec<usize>>,
+}
+
+/// A chain: its carts, and the zones that they want; the last cart has none if it is to move out.
+#[derive(Debug, PartialEq, Eq)]
+pub struct Links {
+    pub carts: Vec<u8>,
+    pub zones: Vec<u8>,
 }
 
 pub fn shuffled(numbers: &mut Numbers, count: usize) -> Vec<usize> {
@@ -231,10 +240,10 @@ impl Crossing {
         at[cart] > step.unwrap() + 1
     }
 
-    /// Whether the cart waits at the stop line for the next lower-numbered cart of its lane.
-    fn held_by_lane(&self, at: &[usize], cart: usize) -> bool {
+    /// The next lower-numbered cart of the cart's lane, if both wait there.
+    fn held_by_lane(&self, at: &[usize], cart: usize) -> Option<usize> {
         let front = (0..cart).rfind(|other| self.lanes[*other] == self.lanes[cart]);
-        at[cart] == 0 && front.is_some_and(|front| at[front] == 0)
+        front.filter(|front| at[cart] == 0 && at[*front] == 0)
     }
 
     /// How many carts ahead have not left the zone.
@@ -260,13 +269,50 @@ impl Crossing {
         let in_zone = self
             .wanted(at, cart)
             .map_or(0, |zone| self.ahead(at, cart, zone));
-        match in_zone + usize::from(self.held_by_lane(at, cart)) {
+        match in_zone + usize::from(self.held_by_lane(at, cart).is_some()) {
             0 => Ok(Moved {
                 position: at[cart] as u8 + 1,
                 made: at.iter().sum::<usize>() as u32 + 1,
             }),
             held => Err(NotMoved::Held(held as u32)),
         }
+    }
+
+    /// Who holds the cart in a position that a run reaches, if it may not move. "a cart held by the lane points to that front cart
+    /// before any cart in the zone list"; otherwise "to the first cart in that zone's list which hasn't left it".
+    fn holder(&self, at: &[usize], cart: usize) -> Option<usize> {
+        let zone = self.wanted(at, cart)?;
+        let mut list = self.lists[zone].iter().copied();
+        let first = list.find(|other| !self.has_left(at, *other, zone));
+        self.held_by_lane(at, cart)
+            .or(first.filter(|other| *other != cart))
+    }
+
+    /// The chain from a cart that is not out, "down to a cart that may move now".
+    pub fn chain(&self, at: &[usize], cart: usize) -> Links {
+        let mut carts = vec![cart];
+        while let Some(holder) = self.holder(at, carts[carts.len() - 1]) {
+            carts.push(holder);
+        }
+        Links {
+            zones: carts
+                .iter()
+                .filter_map(|cart| self.wanted(at, *cart))
+                .map(|zone| zone as u8)
+                .collect(),
+            carts: carts.iter().map(|cart| *cart as u8).collect(),
+        }
+    }
+
+    /// All positions of the carts, from the lane to one past out.
+    pub fn all_positions(&self) -> Vec<Vec<usize>> {
+        (0..self.carts()).fold(vec![vec![]], |positions, cart| {
+            let extended = |at: &Vec<usize>, k| at.iter().copied().chain([k]).collect();
+            positions
+                .iter()
+                .flat_map(|at| (0..=self.out(cart) + 1).map(move |k| extended(at, k)))
+                .collect()
+        })
     }
 
     /// All positions that some run reaches, found by making every permitted move in each of them.

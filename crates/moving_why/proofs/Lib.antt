@@ -1,0 +1,4 @@
+pub mod SoFar
+pub mod Same
+pub mod Links
+pub mod WhyLaws

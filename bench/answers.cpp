@@ -12,8 +12,9 @@ constexpr unsigned inputs_of_a_size = 500, requests_of_an_input = 4, plans_of_a_
 
 // How often each number of document 01's table was answered, by both.
 struct Answered {
-  std::map<unsigned, unsigned> readings, verdicts, requests, chains, plans;
+  std::map<unsigned, unsigned> readings, verdicts, requests, chains, nets, plans;
   std::map<std::size_t, unsigned> lengths;  // of the chains
+  unsigned locked_nets = 0;
 };
 
 template <class A, class B>
@@ -92,6 +93,19 @@ bool same_chain(const Input& input, Answered& answered) {
          a.out == b.out;
 }
 
+bool same_net(const Input& input, Answered& answered) {
+  std::memset(proved.text, 0xee, sizeof proved.text);
+  std::memset(by_hand.text, 0xee, sizeof by_hand.text);
+  proved_net(input);
+  yardstick_net(input);
+  const oblakosh_net_run& a = proved.net;
+  const yardstick::NetRun& b = by_hand.net;
+  ++answered.nets[b.outcome.number];
+  answered.locked_nets += b.locked;
+  return same_outcome(a.outcome, b.outcome) && a.length == b.length && a.locked == b.locked && same_table(a.position, b.position) &&
+         same_table(proved.text, by_hand.text);
+}
+
 bool same_plan(const Input& input, Call by_proved, Call by_yardstick, Answered& answered) {
   std::memset(proved.room, 0xee, sizeof proved.room);
   std::memset(by_hand.room, 0xee, sizeof by_hand.room);
@@ -109,6 +123,7 @@ std::string differs(const Input& input, unsigned number, Answered& answered) {
   if (!same_verdict(input, answered)) return "judging";
   if (!same_request(input, answered)) return "moving";
   if (!same_chain(input, answered)) return "why";
+  if (!same_net(input, answered)) return "the net";
   if (!same_plan(input, proved_first, yardstick_first, answered)) return "first come";
   if (number < plans_of_a_size && !same_plan(input, proved_plan, yardstick_plan, answered)) return "planning";
   for (unsigned k = 0; k < requests_of_an_input; ++k) {
@@ -120,6 +135,7 @@ std::string differs(const Input& input, unsigned number, Answered& answered) {
     if (!same_verdict(bad, answered)) return "judging spoiled bytes";
     if (!same_request(bad, answered)) return "moving under spoiled bytes";
     if (!same_chain(bad, answered)) return "why under spoiled bytes";
+    if (!same_net(bad, answered)) return "the net of spoiled bytes";
   }
   return "";
 }
@@ -138,6 +154,9 @@ bool every_kind(Answered& answered) {
     if (answered.requests[number] == 0) return false;
   for (unsigned number = 22; number <= 25; ++number)
     if (answered.chains[number] == 0) return false;
+  for (unsigned number = 0; number <= 21; ++number)
+    if (answered.nets[number] == 0) return false;
+  if (answered.locked_nets == 0) return false;
   if (answered.lengths[1] == 0 || answered.lengths[2] == 0 || answered.lengths[3] == 0) return false;
   return answered.verdicts[0] != 0 && answered.verdicts[22] != 0 && answered.requests[0] != 0 && answered.plans[0] != 0;
 }
@@ -153,6 +172,7 @@ int report(Answered& answered) {
   std::printf("%u on a record that no run reaches, %u under a locked plan\n", answered.requests[23], answered.requests[22]);
   std::printf("  %7u questions why: %u chains, the longest of %zu carts\n", all(answered.chains), answered.chains[0],
               answered.lengths.rbegin()->first);
+  std::printf("  %7u nets: %u written, %u of them locked\n", all(answered.nets), answered.nets[0], answered.locked_nets);
   std::printf("  %7u plans\n", all(answered.plans));
   if (every_kind(answered)) return 0;
   std::printf("a kind of answer did not come up: the comparison is too small\n");

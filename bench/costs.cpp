@@ -26,7 +26,8 @@ const Operation operations[] = {
     {"read sheet", {proved_read_sheet, yardstick_read_sheet}}, {"read plan", {proved_read_plan, yardstick_read_plan}},
     {"core", {proved_core, yardstick_core}},                   {"judge", {proved_judge, yardstick_judge}},
     {"move", {proved_move, yardstick_move}},                   {"why", {proved_why, yardstick_why}},
-    {"first come", {proved_first, yardstick_first}},           {"plan", {proved_plan, yardstick_plan}},
+    {"net", {proved_net, yardstick_net}},                      {"first come", {proved_first, yardstick_first}},
+    {"plan", {proved_plan, yardstick_plan}},
 };
 
 bool is_plan(const Operation& operation) { return operation.by[0] == proved_plan; }

@@ -64,6 +64,12 @@ MEASURED proved_why(const Input& input) {
   new (&proved.chain) oblakosh_chain(oblakosh_why(s, s_length, p, p_length, input.record, input.cart));
 }
 
+MEASURED proved_net(const Input& input) {
+  const auto [s, s_length] = sheet_of(input);
+  const auto [p, p_length] = plan_of(input);
+  new (&proved.net) oblakosh_net_run(oblakosh_net(s, s_length, p, p_length, proved.text, OBLAKOSH_NET));
+}
+
 MEASURED proved_plan(const Input& input) {
   const auto [s, s_length] = sheet_of(input);
   new (&proved.planned) oblakosh_planned(oblakosh_plan(s, s_length, proved.room, OBLAKOSH_PLAN));
@@ -98,6 +104,10 @@ MEASURED yardstick_move(const Input& input) {
 MEASURED yardstick_why(const Input& input) {
   std::memcpy(&by_hand.record, &input.record, sizeof by_hand.record);
   new (&by_hand.chain) yardstick::Chain(yardstick::why(sheet_of(input), plan_of(input), by_hand.record, input.cart));
+}
+
+MEASURED yardstick_net(const Input& input) {
+  new (&by_hand.net) yardstick::NetRun(yardstick::net(sheet_of(input), plan_of(input), by_hand.text, OBLAKOSH_NET));
 }
 
 MEASURED yardstick_plan(const Input& input) {

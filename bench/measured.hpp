@@ -15,6 +15,8 @@ struct Proved {
   oblakosh_chain chain;
   oblakosh_planned planned;
   std::uint8_t room[OBLAKOSH_PLAN];
+  oblakosh_net_run net;
+  std::uint8_t text[OBLAKOSH_NET];
 };
 
 struct ByHand {
@@ -32,6 +34,8 @@ struct ByHand {
   yardstick::Chain chain;
   yardstick::Planned planned;
   std::uint8_t room[OBLAKOSH_PLAN];
+  yardstick::NetRun net;
+  std::uint8_t text[OBLAKOSH_NET];
 };
 
 extern Proved proved;
@@ -50,6 +54,7 @@ void proved_judge(const Input&);
 void proved_ask(const Input&);
 void proved_move(const Input&);
 void proved_why(const Input&);
+void proved_net(const Input&);
 void proved_plan(const Input&);
 void proved_first(const Input&);
 void yardstick_read_sheet(const Input&);
@@ -58,6 +63,7 @@ void yardstick_core(const Input&);
 void yardstick_judge(const Input&);
 void yardstick_move(const Input&);
 void yardstick_why(const Input&);
+void yardstick_net(const Input&);
 void yardstick_plan(const Input&);
 void yardstick_first(const Input&);
 }

@@ -74,5 +74,7 @@ int measure_stack() {
   print("ask", proved_ask, nullptr, accepted);
   print("move", proved_move, yardstick_move, accepted);
   print("why", proved_why, yardstick_why, accepted);
+  print("net, accepted", proved_net, yardstick_net, accepted);
+  print("net, locked", proved_net, yardstick_net, locked);
   return 0;
 }

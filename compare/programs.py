@@ -1,12 +1,14 @@
 #!/usr/bin/env python3
-"""Compares our proved programs with sheets.py, plans.py, judging.py, planning.py and moving.py, which follow documents 01 and 02 in a form of
-their own.
+"""Compares our proved programs with sheets.py, plans.py, judging.py, planning.py, moving.py and nets.py, which follow documents 01 and 02 in a
+form of their own.
 
 programs.py sheet FILE     prints what the program sheet_main must print for the sheet in FILE
 programs.py judge FILE     prints what the program judge_main must print for the sheet and plan in FILE
 programs.py why FILE       prints what the program why_main must print for the sheet, plan, record and cart in FILE
+programs.py net FILE       prints what the program net_main must print for the sheet and plan in FILE, and with the word dot after it
 programs.py lines FILE..   prints what the program vectors must print for these texts, with a sheet or a sheet and a plan a line
-programs.py check VECTORS JUDGE PLANNER WHY   compares the stored output of all, then runs these programs on random sheets and plans and odd inputs
+programs.py check VECTORS JUDGE PLANNER WHY NET   compares the stored output of all, then runs these programs on random sheets and plans and odd
+                           inputs; the net's Graphviz form is drawn by the command dot
 """
 import itertools
 import os
@@ -18,6 +20,7 @@ import tempfile
 
 import judging
 import moving
+import nets
 import planning
 import plans
 import sheets
@@ -195,12 +198,12 @@ def check_planner(program):
     print('planner program: %d stored and %d other sheets as expected' % (len(stored), len(cases)))
 
 
-def run_why(program, given):
-    """What the program that says why prints, and what it leaves of its input."""
+def run_on(given, *command, check=True):
+    """What a program prints on these bytes, and how many of them it leaves."""
     with tempfile.TemporaryFile() as file:
         file.write(given)
         file.seek(0)
-        ran = subprocess.run([program], stdin=file, stdout=subprocess.PIPE, stderr=subprocess.PIPE, check=len(given) >= 21)
+        ran = subprocess.run(command, stdin=file, stdout=subprocess.PIPE, stderr=subprocess.PIPE, check=check)
         return ran.stdout.decode(), ran.stderr.decode(), len(given) - os.lseek(file.fileno(), 0, os.SEEK_CUR)
 
 
@@ -214,7 +217,7 @@ def check_why(program):
     blocks = []
     for given in inputs:
         wanted = (*moving.printed(given), max(0, len(given) - 2048))
-        compare(repr(wanted), repr(run_why(program, given)), '%s on %s' % (program, given.hex()))
+        compare(repr(wanted), repr(run_on(given, program, check=len(given) >= 21)), '%s on %s' % (program, given.hex()))
         blocks.append(wanted[0])
     count_numbers('questions', range(26), [re.sub(r'^cart .*\n(?s:.*)', 'ok ', block) for block in blocks])
     check_told(blocks)
@@ -223,6 +226,49 @@ def check_why(program):
         print('chains of %2d: %5d' % (length, count))
         if not count:
             sys.exit('a chain of %d was never seen' % length)
+
+
+def check_drawn(program, given):
+    """The command dot takes the net's Graphviz form and draws each of its places, transitions and arcs."""
+    net = nets.Net(*plans.read_all(*judging.parted(given)))
+    form, _, _ = run_on(given, program, 'dot')
+    drawn, errors, _ = run_on(form.encode(), 'dot', '-Tsvg')
+    count = [drawn.count('<g id="%s' % part) for part in ('node', 'edge')]
+    if errors or count != [len(net.marking) + len(net.transitions), len(net.arcs)]:
+        sys.exit('%s dot on %s: drawn %r, and said %r' % (program, given.hex(), count, errors))
+
+
+def check_net(program):
+    """The program that prints the net: S cut after every byte and made longer than is read, S on one lane, no carts, the longest net, random inputs."""
+    sheet, accepted, locked = (read_bytes('examples/' + part) for part in ['S.sheet', 'A.plan', 'B.plan'])
+    one_lane = sheet[:29] + b'\0' + sheet[30:]
+    no_carts = plans.sheet_of([(0, 0)], []) + plans.written([[]])
+    inputs = [(sheet + accepted)[:size] for size in range(len(sheet + accepted) + 1)]
+    inputs += [sheet + locked, one_lane + accepted, one_lane + locked, no_carts, nets.longest(), sheet + accepted + bytes(3000)]
+    if len(nets.printed(nets.longest())[0]) != 80891:
+        sys.exit('the longest net has not the length that docs/NET.md says')
+    inputs += nets.random_inputs()
+    blocks, ends, drawn = [], [0, 0], 0
+    for given in inputs:
+        for words in [(), ('dot',)]:
+            wanted = (*nets.printed(given, *words), max(0, len(given) - 2048))
+            compare(repr(wanted), repr(run_on(given, program, *words)), ' '.join([program, *words, 'on', given.hex()]))
+        blocks.append(wanted[1] or 'ok ')
+        refusal, carts, lists = plans.read(*judging.parted(given[:2048]))
+        if not refusal:
+            net = nets.Net(carts, lists)
+            net.check_end()
+            ends[judging.shown(*judging.parted(given[:2048]))[0].startswith('refused 22')] += 1
+            if len(net.lines) < 70 and drawn < 40:
+                check_drawn(program, given)
+                drawn += 1
+    for words in [('dots',), ('Dot',), ('',), ('dot', 'dot'), ('x', 'dot')]:
+        compare(repr(('', nets.WORDS)), repr(run_on(b'', program, *words, check=False)[:2]), ' '.join([program, *words]))
+    count_numbers('nets', range(22), blocks)
+    check_told(blocks)
+    print('nets accepted: %d, locked: %d, drawn by dot: %d' % (*ends, drawn))
+    if not all(ends) or not drawn:
+        sys.exit('nets: accepted, locked and drawn ones are to be seen')
 
 
 def check_random(program):
@@ -242,15 +288,18 @@ def main(words):
         print(judging.printed(read_bytes(words[1])), end='')
     elif words[:1] == ['why'] and len(words) == 2:
         print(moving.printed(read_bytes(words[1]))[0], end='')
+    elif words[:1] == ['net'] and (len(words) == 2 or words[2:] == ['dot']):
+        print(nets.printed(read_bytes(words[1]), *words[2:])[0], end='')
     elif words[:1] == ['lines']:
         print(output_of_texts(words[1:]), end='')
-    elif words[:1] == ['check'] and len(words) == 5:
-        vectors, judge, planner, why = map(os.path.abspath, words[1:])
+    elif words[:1] == ['check'] and len(words) == 6:
+        vectors, judge, planner, why, net = map(os.path.abspath, words[1:])
         os.chdir(ROOT)
         check_stored()
         check_inputs(judge)
         check_planner(planner)
         check_why(why)
+        check_net(net)
         check_random(vectors)
     else:
         sys.exit(__doc__)

@@ -1,5 +1,5 @@
-/* What a controller does with document 01's sheet S and plan A: reads them, keeps the plan, shows each zone's list, plans, and lets
-   the carts roll.
+/* What a controller does with document 01's sheet S and plan A: reads them, keeps the plan, shows each zone's list, plans, writes the
+   plan's net, and lets the carts roll.
    cc -Iinclude examples/controller.c target/staticlib/liboblakosh.a target/staticlib/libmoving.a */
 #include <stdio.h>
 #include <string.h>
@@ -104,6 +104,17 @@ static void make_other_plans(void)
     }
 }
 
+/* The plan's Petri net: how long its text is, how it begins, and where the carts are when no transition can fire. */
+static void show_net(void)
+{
+    static uint8_t text[OBLAKOSH_NET];
+    oblakosh_net_run net = oblakosh_net(sheet, sizeof sheet, plan, sizeof plan, text, sizeof text);
+    if (done(net.outcome)) {
+        printf("net of %zu bytes, %s: carts at %u and %u\n%.23s", net.length, net.locked ? "locked" : "not locked", net.position[0],
+               net.position[1], (const char *)text);
+    }
+}
+
 /* Says which cart is to move before a held one can: the last of its chain. */
 static void show_why(oblakosh_record record, size_t cart)
 {
@@ -157,6 +168,7 @@ int main(void)
     make_plan(OBLAKOSH_PLAN);
     make_plan(sizeof plan - 1);
     make_other_plans();
+    show_net();
     drive();
     return 0;
 }

@@ -237,6 +237,23 @@ typedef struct {
 oblakosh_chain oblakosh_why(const uint8_t *sheet, size_t sheet_length, const uint8_t *plan, size_t plan_length,
                             oblakosh_record record, size_t cart);
 
+/* ---- the Petri net of a plan */
+
+#define OBLAKOSH_NET 80891        /* bytes of the longest net as text */
+
+typedef struct {
+    oblakosh_outcome outcome;
+    size_t length;                    /* of the text written */
+    uint8_t locked;                   /* 1 if a cart's out place has no token when no transition can fire, else 0 */
+    uint8_t position[OBLAKOSH_CARTS]; /* of each cart the position whose place has its token then; absent carts 0 */
+} oblakosh_net_run;
+
+/* Builds the net of document 001, section 3.2, with places for the stop line, fires transitions until none can fire, and
+   writes the net as text at the start of the room, a place, transition or arc a line (docs/NET.md). A locked plan is an
+   answer here. Refuses with 1 to 21, and with 28 if the room is shorter than the text. Bytes beyond the text are untouched. */
+oblakosh_net_run oblakosh_net(const uint8_t *sheet, size_t sheet_length, const uint8_t *plan, size_t plan_length,
+                              uint8_t *room, size_t room_length);
+
 /* ---- the layout that the libraries have: the size of each struct, and the place and size of each field, in bytes */
 
 #if defined(__cplusplus) && __cplusplus >= 201103L
@@ -309,6 +326,11 @@ OBLAKOSH_FIELD(oblakosh_chain, length, 16, 8);
 OBLAKOSH_FIELD(oblakosh_chain, cart, 24, 16);
 OBLAKOSH_FIELD(oblakosh_chain, zone, 40, 16);
 OBLAKOSH_FIELD(oblakosh_chain, out, 56, 1);
+OBLAKOSH_STRUCT(oblakosh_net_run, 48);
+OBLAKOSH_FIELD(oblakosh_net_run, outcome, 0, 16);
+OBLAKOSH_FIELD(oblakosh_net_run, length, 16, 8);
+OBLAKOSH_FIELD(oblakosh_net_run, locked, 24, 1);
+OBLAKOSH_FIELD(oblakosh_net_run, position, 25, 16);
 #undef OBLAKOSH_FIELD
 #undef OBLAKOSH_STRUCT
 #undef OBLAKOSH_HOLDS

@@ -17,9 +17,9 @@ struct Asked {
   std::uint32_t made, ahead;
 };
 
-// 22: whether permitted moves do not bring every cart out. No times are worked out: a request needs none.
-inline bool is_locked(const Sheet& sheet, const Lanes& lanes, const std::uint16_t* ahead) {
-  Standing standing = {};
+// Every cart in turn moves on as far as it may, until all are out or none moves. No times are worked out: a request needs none. Answers
+// the stuck carts that no lane holds; a cart that is out stands at its last step.
+[[gnu::always_inline]] inline CartSet move_all(const Sheet& sheet, const Lanes& lanes, const std::uint16_t* ahead, Standing& standing) {
   CartSet going = lanes.fronts;
   for (bool moved = true; going != 0 && moved;) {
     moved = false;
@@ -42,7 +42,13 @@ inline bool is_locked(const Sheet& sheet, const Lanes& lanes, const std::uint16_
       going ^= me;
     }
   }
-  return going != 0;
+  return going;
+}
+
+// 22: whether permitted moves do not bring every cart out.
+inline bool is_locked(const Sheet& sheet, const Lanes& lanes, const std::uint16_t* ahead) {
+  Standing standing = {};
+  return move_all(sheet, lanes, ahead, standing) != 0;
 }
 
 // What a record says: for each zone the carts that have left it, and the carts whose front cart is on their lane.

@@ -343,6 +343,19 @@ inline Sheet random_sheet_for_line(Random& random) {
     return sheet;
 }
 
+// 16 carts of 8 steps in 8 zones, all on one lane: docs/NET.md's longest net. On one lane there is one plan alone.
+inline Sheet sheet_of_longest_net() {
+    Sheet sheet;
+    for (uint32_t z = 0; z < 8; z++) sheet.zones.push_back(Zone{z, 2 * z});
+    for (uint32_t c = 0; c < 16; c++) {
+        Cart cart;
+        cart.lane = 9;
+        for (uint32_t s = 0; s < 8; s++) cart.steps.push_back(Step{s, 10, s + 1 == 8 ? 0u : 1u});
+        sheet.carts.push_back(cart);
+    }
+    return sheet;
+}
+
 // The longest sheet: 16 carts, 8 steps each, 24 zones, all values at their limit.
 inline Sheet longest_sheet() {
     Sheet sheet;
@@ -1067,6 +1080,7 @@ struct Case {
     std::vector<uint32_t> words;            // the words as they are lent
     std::vector<uint64_t> list_zones;       // zone numbers asked for, any
     std::vector<MoveRequest> move_requests; // cart numbers, any
+    std::vector<Bytes> net_rooms;           // as they are lent
     Bytes standard_input;                   // of the judge program
 };
 
@@ -1084,6 +1098,14 @@ inline uint64_t number_from(Random& random, uint32_t limit) {
 inline Bytes random_room(Random& random, uint32_t length) {
     Bytes room;
     for (uint32_t i = 0; i < length; i++) room.push_back(static_cast<uint8_t>(random.below(256)));
+    return room;
+}
+
+// A long room, quickly made.
+inline Bytes patterned_room(Random& random, uint32_t length) {
+    Bytes room(length);
+    uint8_t next = static_cast<uint8_t>(random.below(256));
+    for (uint8_t& byte : room) byte = next += 37;
     return room;
 }
 
@@ -1175,6 +1197,9 @@ inline void add_other_inputs(Random& random, Case& c) {
         needed = static_cast<uint32_t>(4 + sheet.sheet.zones.size() + independent::count_steps(sheet.sheet));
     }
     c.planning_room = random_room(random, random_room_length(random, needed));
+
+    const uint32_t net_needed = plan.number == 0 ? static_cast<uint32_t>(independent::net_length(plan.sheet, plan.lists)) : 100;
+    c.net_rooms = {patterned_room(random, random_room_length(random, net_needed))};
 
     if (plan.number != 0) {
         c.list_zones = {random.below(26), 0};
@@ -1612,6 +1637,38 @@ inline std::vector<ChainSituation> situations_of(const Sheet& sheet, const Lists
         if (found[s]) situations.push_back(static_cast<ChainSituation>(s));
     }
     return situations;
+}
+
+// What the net of #106 has to be tried on; a run that never saw one of these has failed.
+enum NetSituation {
+    net_accepted, net_locked, net_without_carts, net_longest, net_with_lines, line_and_pair_between_two, room_exactly_enough, room_one_short,
+    room_with_bytes_beyond, net_situations
+};
+constexpr const char* net_situation_names[net_situations] = {
+    "accepted", "locked", "no carts", "the longest text", "places of the stop line", "a line's and a pair's place between two carts",
+    "room exactly long enough", "room one byte short", "bytes beyond the text"};
+
+// The situations of a readable plan whose net is to be written in so much room.
+inline std::vector<NetSituation> situations_of(const Sheet& sheet, const Lists& lists, size_t room, const independent::NetAnswer& answer) {
+    std::vector<NetSituation> found;
+    const size_t needed = independent::net_length(sheet, lists);
+    if (answer.number == 0) {
+        found.push_back(answer.locked ? net_locked : net_accepted);
+        if (sheet.carts.empty()) found.push_back(net_without_carts);
+        if (answer.length == 80891) found.push_back(net_longest);
+        if (room == needed) found.push_back(room_exactly_enough);
+        if (room > needed) found.push_back(room_with_bytes_beyond);
+    }
+    if (answer.number == 28 && room + 1 == needed) found.push_back(room_one_short);
+    bool lines = false, both = false;
+    for (uint32_t c = 0; c < sheet.carts.size(); c++) {
+        const int front = independent::cart_in_front(sheet, c);
+        lines = lines || front >= 0;
+        both = both || (front >= 0 && independent::step_in_route(sheet.carts[static_cast<size_t>(front)], sheet.carts[c].steps[0].zone) >= 0);
+    }
+    if (lines) found.push_back(net_with_lines);
+    if (both) found.push_back(line_and_pair_between_two);
+    return found;
 }
 
 // ---------------------------------------------------------------------------------------------

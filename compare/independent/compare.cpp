@@ -34,7 +34,7 @@ static const char* const kind_names[kinds] = {
     "examples and stored sheets", "one byte changed, or cut", "tiny crossings", "small crossings",
     "damaged sheets", "damaged plans", "dense crossings", "large crossings", "every field cut or wrong", "chains"};
 
-enum Program { judge_program, planner_program, first_program, better_program, why_program, program_count };
+enum Program { judge_program, planner_program, first_program, better_program, why_program, net_program, dot_program, program_count };
 
 // What is added up over all jobs.
 struct Seen {
@@ -154,6 +154,13 @@ static std::vector<std::string> column_of(const char* file, int column) {
     return found;
 }
 
+// Room for the net one byte short, exactly long enough and longer, of a plan that is readable.
+static void lend_rooms_around_net(Random& random, Case& c) {
+    const independent::PlanAnswer plan = independent::read_plan(c.sheet, c.plan);
+    const uint32_t needed = static_cast<uint32_t>(independent::net_length(plan.sheet, plan.lists));
+    for (uint32_t length = needed > 0 ? needed - 1 : 0; length <= needed + 1; length++) c.net_rooms.push_back(cases::patterned_room(random, length));
+}
+
 static void compare_stored(Random& random, Seen& seen) {
     Bytes one_lane = sheet_S;
     one_lane[29] = 0;
@@ -161,14 +168,21 @@ static void compare_stored(Random& random, Seen& seen) {
         for (const Bytes& plan : {plan_A, plan_B}) {
             Case c = case_of(random, "document 01's sheet and plan", sheet, plan);
             ask_everything(random, c, independent::read_sheet(sheet).sheet);
+            lend_rooms_around_net(random, c);
             compare(seen, stored, c);
         }
     }
     for (const char* sheet : {"01 0009 01 0000 0000 00", "", "02"}) {
-        compare(seen, stored, case_of(random, "document 01's examples", cases::from_hex(sheet), cases::from_hex("01 0005 01 00")));
+        Case c = case_of(random, "document 01's examples", cases::from_hex(sheet), cases::from_hex("01 0005 01 00"));
+        if (independent::read_sheet(c.sheet).number == 0) lend_rooms_around_net(random, c);
+        compare(seen, stored, c);
     }
-    const Bytes longest = cases::sheet_to_bytes(cases::longest_sheet());
-    compare(seen, stored, case_of(random, "the longest sheet", longest, cases::plan_to_bytes(cases::planned_lists(longest))));
+    for (const Sheet& sheet : {cases::longest_sheet(), cases::sheet_of_longest_net()}) {
+        const Bytes longest = cases::sheet_to_bytes(sheet);
+        Case c = case_of(random, "the longest sheet or net", longest, cases::plan_to_bytes(cases::planned_lists(longest)));
+        lend_rooms_around_net(random, c);
+        compare(seen, stored, c);
+    }
     std::vector<std::string> sheets = column_of("compare/independent/cut-groups.txt", 1);
     for (const std::string& sheet : column_of("compare/independent/first-come.txt", 0)) sheets.push_back(sheet);
     for (const std::string& sheet : column_of("compare/planned.txt", 0)) sheets.push_back(sheet);
@@ -244,6 +258,8 @@ static void compare_tiny(Random& random, Seen& seen, uint32_t m, uint32_t n, con
         c.planning_room = cases::random_room(random, length + random.below(3));
         c.words = cases::random_words(random);
         c.list_zones = {random.below(n + 1)};
+        const uint32_t net_length = static_cast<uint32_t>(independent::net_length(sheet, lists));
+        c.net_rooms = {cases::patterned_room(random, net_length - (random.one_in(4) ? 1 : 0) + random.below(2))};
         if (m == 2 || random.one_in(300)) {
             ask_everything(random, c, sheet);
         } else {
@@ -356,6 +372,38 @@ static void compare_why_program(Random& random, Seen& seen) {
     }
 }
 
+// The program that prints the net, with its word and without, on so many inputs of each number, on every part of a sheet, on longer
+// ones than it reads, on the longest net, and on none; and words that are none of its.
+static void compare_net_program(Random& random, Seen& seen) {
+    const auto count = [&](const Bytes& input) {
+        seen.program[net_program].count(programs::compare_net(input, false));
+        seen.program[dot_program].count(programs::compare_net(input, true));
+    };
+    const auto together = [](Bytes sheet, const Bytes& plan) {
+        sheet.insert(sheet.end(), plan.begin(), plan.end());
+        return sheet;
+    };
+    for (const char* words : {"dots", "Dot", "do", "text", "\"\"", "dot dot", "dot x", "x dot"}) programs::compare_net_words(words);
+    std::vector<Bytes> inputs = sheets_for_every_part();
+    Bytes longer = together(sheet_S, plan_A);
+    longer.resize(5000, 1);
+    Bytes one_lane = sheet_S;
+    one_lane[29] = 0;
+    const Sheet largest = cases::sheet_of_longest_net();
+    inputs.insert(inputs.end(), {Bytes(), together(sheet_S, plan_A), together(sheet_S, plan_B), together(one_lane, plan_A), longer,
+                                 cases::from_hex("01 0009 01 0000 0000 00 01 0005 01 00"),
+                                 together(cases::sheet_to_bytes(largest), cases::plan_to_bytes(cases::visitors_of(largest)))});
+    for (const Bytes& input : inputs) count(input);
+    uint64_t runs[29] = {};
+    for (uint32_t tried = 0; tried < 40000; tried++) {
+        const Case c = tried % 20 == 0 ? cases::random_large_case(random) : cases::random_small_case(random);
+        const uint32_t number = programs::outcome_in(independent::net_program(c.standard_input, false).errors).number;
+        if (runs[number] >= (number == 0 ? 100 : runs_per_number)) continue;
+        runs[number]++;
+        count(c.standard_input);
+    }
+}
+
 // Chains of each length, and each of their carts asked about.
 static void compare_chains(Random& random, Seen& seen) {
     for (uint32_t length = 1; length <= 16; length++) {
@@ -377,6 +425,7 @@ static std::vector<Job> all_jobs() {
     jobs.push_back(Job{"judge program", 1, compare_judge_program});
     jobs.push_back(Job{"planner program", 2, compare_planner_program});
     jobs.push_back(Job{"program that says why", 105, compare_why_program});
+    jobs.push_back(Job{"program that prints the net", 106, compare_net_program});
     jobs.push_back(Job{kind_names[stored], 3, compare_stored});
     jobs.push_back(Job{kind_names[one_byte], 4, compare_one_byte});
     for (uint32_t m = 2; m <= 3; m++) {
@@ -404,7 +453,8 @@ static std::vector<Job> all_jobs() {
 
 // "Reading a sheet has 1 to 14, reading a plan 1 to 21, writing it again 1 to 21 and 28, the list operation 1 to 21
 // and 27. The planner takes no plan and has only 1 to 14 and 28. Judging has 1 to 22 and 28. Moving has 1 to 26."
-// Document 02, #101: "Refusals: none new; 1 to 14 and 28."; #105: "as for moving up to 25; 26 is never given".
+// Document 02, #101: "Refusals: none new; 1 to 14 and 28."; #105: "as for moving up to 25; 26 is never given"; #106: "1 to 21,
+// then 28 for the text's room".
 struct Column {
     const char* name;
     uint32_t most;                       // it has 0 to this number,
@@ -413,10 +463,11 @@ struct Column {
 static const Column columns[library::operations] = {
     {"sheet", 14, 0},    {"plan", 21, 0},   {"again", 21, 28},  {"list", 21, 27}, {"judge", 22, 28},
     {"planner", 14, 28}, {"first", 14, 28}, {"better", 14, 28}, {"ask", 26, 0},   {"move", 26, 0},
-    {"why", 25, 0}};
+    {"why", 25, 0},      {"net", 21, 28}};
 // The programs lend room enough, so that 28 never comes.
 static const Column program_columns[program_count] = {
-    {"judge program", 22, 0}, {"planner program", 14, 0}, {"planner first", 14, 0}, {"planner better", 14, 0}, {"why program", 25, 0}};
+    {"judge program", 22, 0}, {"planner program", 14, 0}, {"planner first", 14, 0}, {"planner better", 14, 0}, {"why program", 25, 0},
+    {"net program", 21, 0},   {"net dot", 21, 0}};
 
 // Prints a number's count; gives what is wrong with it, if anything is.
 static std::string print_count(const Column& column, uint32_t number, uint64_t count, int width) {
@@ -503,9 +554,10 @@ static void print_kinds(const Seen& seen) {
     std::printf("\nsheets planned with a group cut: %llu\n", shown(seen.tally.cut_sheets));
     const independent::DoubleCheckCounts& d = seen.double_checks;
     std::printf("the independent program searched all runs of %llu crossings, %llu states, and compared %llu verdicts, %llu entering times, "
-                "%llu spare times, %llu records and the cart and step of %llu refusals two ways; it held %llu chains to the rule for moves\n",
+                "%llu spare times, %llu records and the cart and step of %llu refusals two ways; it held %llu chains to the rule for moves, "
+                "and the marking of %llu nets to the runs\n",
                 shown(d.searches), shown(d.states), shown(d.verdicts), shown(d.times), shown(d.spare), shown(d.records), shown(d.parts),
-                shown(d.chains));
+                shown(d.chains), shown(d.nets));
 }
 
 // ---------------------------------------------------------------------------------------------
@@ -560,6 +612,7 @@ int main() {
     print_situations("the stop line", cases::line_situation_names, seen.tally.line, cases::line_situations);
     print_chains(seen);
     print_situations("chains", cases::chain_situation_names, seen.tally.chain, cases::chain_situations);
+    print_situations("nets", cases::net_situation_names, seen.tally.net, cases::net_situations);
     if (seen.readable[small] < 200000) fail("fewer than 200,000 small crossings with a readable plan");
     if (seen.tiny_sheets != 17677 || seen.cases[tiny] != 667768) fail("not every tiny crossing");
     if (seen.sheet_refused[damaged_sheets] < 100000) fail("fewer than 100,000 damaged sheets");

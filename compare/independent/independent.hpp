@@ -1,17 +1,20 @@
-// Every operation of document 01 with document 02's #101, #102, #104 and #105 on any bytes, written from them alone and plain on purpose.
+// Every operation of document 01 with document 02's #101, #102 and #104 to #106 on any bytes, written from them alone and plain on purpose.
 //
 // Lines in quotation marks are sentences of document 01, unless they are marked "001", which is the
-// paper it refers to (Lin and others 2019), or #101, #102, #104 or #105, which are document 02's. The double checks (search over all runs, times
-// two ways, resource conflict graph, cart and step of a refusal two ways) are inside the operations; one that fails throws DoubleCheckFailed.
+// paper it refers to (Lin and others 2019), #101, #102, #104, #105 or #106, which are document 02's, or NET.md, which is docs/NET.md. The double
+// checks (search over all runs, times two ways, resource conflict graph, cart and step of a refusal two ways, the net's marking beside the runs)
+// are inside the operations; one that fails throws DoubleCheckFailed.
 
 #ifndef INDEPENDENT_HPP
 #define INDEPENDENT_HPP
 
+#include <algorithm>
 #include <array>
 #include <cstddef>
 #include <cstdint>
 #include <stdexcept>
 #include <string>
+#include <tuple>
 #include <utility>
 #include <vector>
 
@@ -37,6 +40,7 @@ struct DoubleCheckCounts {
     uint64_t records_searched = 0;     // of these, compared with the search
     uint64_t parts = 0;                // cart and step of a refusal two ways
     uint64_t chains = 0;               // chains held to the moves' rule link by link
+    uint64_t nets = 0;                 // nets fired, and their markings held to the runs
 
     void add(const DoubleCheckCounts& other) {
         searches += other.searches;
@@ -49,6 +53,7 @@ struct DoubleCheckCounts {
         records_searched += other.records_searched;
         parts += other.parts;
         chains += other.chains;
+        nets += other.nets;
     }
 };
 inline thread_local DoubleCheckCounts double_check_counts;
@@ -185,6 +190,12 @@ struct ChainLink {
 struct ChainAnswer : Outcome {
     std::vector<ChainLink> links;      // begun at the cart asked about, each held by the next
     bool out = false;                  // whether the last one's move is the move out
+};
+struct NetAnswer : Outcome {
+    uint32_t length = 0;               // of the text
+    bool locked = false;
+    std::array<uint8_t, 16> positions{};
+    Bytes room;                        // the whole room afterwards
 };
 
 // ---------------------------------------------------------------------------------------------
@@ -1890,6 +1901,229 @@ inline ChainAnswer why(const Bytes& sheet_bytes, const Bytes& plan_bytes, const 
 }
 
 // ---------------------------------------------------------------------------------------------
+// The Petri net
+// ---------------------------------------------------------------------------------------------
+
+// A line of the text, with what NET.md orders the lines by.
+struct NetLine {
+    uint32_t cart = 0;
+    uint32_t position = 0;
+    int other = -1;                      // the other cart; -1: none
+    int form = 0;                        // which line of NET.md's table
+    std::string text;
+    std::string dot;                     // the same in Graphviz' language
+};
+
+// 001: "a 5-tuple (P, T, I, O, M_0)". Places and transitions are numbered as they are added.
+struct Net {
+    struct Transition {
+        std::vector<size_t> from, to;    // the places of its arcs
+    };
+    std::vector<std::string> places;     // by their names
+    std::vector<uint32_t> tokens;        // of each place, first marking
+    std::vector<std::string> names;      // of the transitions
+    std::vector<Transition> transitions;
+    std::vector<std::vector<size_t>> place_at;   // the place of each cart's each position
+    std::vector<NetLine> lines;
+};
+
+// NET.md: "The two characters are a number in decimal with two digits, or `--`."
+inline std::string two_characters(int number) {
+    if (number < 0) return "--";
+    return std::string(1, static_cast<char>('0' + number / 10)) + static_cast<char>('0' + number % 10);
+}
+
+// NET.md's table of words, in its order.
+enum NetForm {
+    place_cart, transition, arc_from_cart, arc_to_cart, place_line, arc_to_line, arc_from_line, place_pair, arc_to_pair, arc_from_pair
+};
+constexpr const char* net_words[10] = {"place cart", "transition", "arc cart >", "arc > cart", "place line",
+                                       "arc > line", "arc line >", "place pair", "arc > pair", "arc pair >"};
+
+// NET.md: "A line is 23 bytes: a word of ten, four times a blank and two characters, and a line feed. [...] They are, in this
+// order, a cart, its position, the other cart and that one's position."
+inline NetLine net_line(NetForm form, uint32_t cart, uint32_t position, int other, int other_position, const std::string& dot) {
+    std::string text = net_words[form];
+    for (int number : {static_cast<int>(cart), static_cast<int>(position), other, other_position}) text += " " + two_characters(number);
+    return NetLine{cart, position, other, form, text + "\n", dot + "\n"};
+}
+
+inline size_t add_place(Net& net, const std::string& name, uint32_t tokens) {
+    net.places.push_back(name);
+    net.tokens.push_back(tokens);
+    return net.places.size() - 1;
+}
+
+inline std::string dot_place(const Net& net, size_t place) {
+    const std::string& name = net.places[place];
+    return "\"" + name + "\" [shape=circle label=\"" + (net.tokens[place] > 0 ? "&bull;" : "") + "\" xlabel=\"" + name + "\"]";
+}
+
+inline std::string dot_arc(const std::string& from, const std::string& to) { return "\"" + from + "\" -> \"" + to + "\""; }
+
+// A place between two moves of different carts, with its two arcs: the rear cart's move waits for the front cart's.
+inline void add_between(Net& net, NetForm forms_from, const std::string& name, uint32_t rear, uint32_t rear_position, size_t rear_move,
+                        uint32_t front, uint32_t front_position, size_t front_move) {
+    const size_t place = add_place(net, name, 0);
+    net.transitions[front_move].to.push_back(place);
+    net.transitions[rear_move].from.push_back(place);
+    const int other = static_cast<int>(front);
+    net.lines.push_back(net_line(forms_from, rear, rear_position, other, -1, dot_place(net, place)));
+    net.lines.push_back(net_line(static_cast<NetForm>(forms_from + 1), rear, rear_position, other, static_cast<int>(front_position),
+                                 dot_arc(net.names[front_move], name)));
+    net.lines.push_back(net_line(static_cast<NetForm>(forms_from + 2), rear, rear_position, other, -1, dot_arc(name, net.names[rear_move])));
+}
+
+inline Net net_of(const Sheet& sheet, const Lists& lists) {
+    Net net;
+    std::vector<std::vector<size_t>> move_from;           // the transition of each cart's move from each position
+    for (uint32_t c = 0; c < sheet.carts.size(); c++) {
+        const uint32_t last = static_cast<uint32_t>(sheet.carts[c].steps.size()) + 1;
+        const std::string cart = two_characters(static_cast<int>(c));
+        net.place_at.push_back({});
+        move_from.push_back({});
+        // 001: "q_{i,in}", "q_{i,j}" and "q_{i,out}"; "M_0(q_{i,in}) = 1"
+        for (uint32_t p = 0; p <= last; p++) {
+            net.place_at[c].push_back(add_place(net, cart + " at " + two_characters(static_cast<int>(p)), p == 0 ? 1 : 0));
+            net.lines.push_back(net_line(place_cart, c, p, -1, -1, dot_place(net, net.place_at[c][p])));
+        }
+        // 001: "t_{i,in,j}", "t_{i,j,j'}" and "t_{i,j',out}", each with its I and its O
+        for (uint32_t p = 0; p < last; p++) {
+            const std::string name = cart + " from " + two_characters(static_cast<int>(p));
+            move_from[c].push_back(net.transitions.size());
+            net.names.push_back(name);
+            net.transitions.push_back(Net::Transition{{net.place_at[c][p]}, {net.place_at[c][p + 1]}});
+            net.lines.push_back(net_line(transition, c, p, -1, -1, "\"" + name + "\" [shape=box]"));
+            net.lines.push_back(net_line(arc_from_cart, c, p, -1, -1, dot_arc(net.places[net.place_at[c][p]], name)));
+            net.lines.push_back(net_line(arc_to_cart, c, p, -1, -1, dot_arc(name, net.places[net.place_at[c][p + 1]])));
+        }
+    }
+    // 001: "For every Type-2 or Type-3 edge (v_{i,j}, v_{i',j})", which a plan has for every pair in a list, "q_{i,i',j}";
+    // "I(q_{i,i',j}, t_{i',j',j}) = 1", j' the zone before j on the route of i' or "in"; "O(t_{i,j,j''}, q_{i,i',j}) = 1", j'' the
+    // zone after j on the route of i or "out"
+    for (uint32_t z = 0; z < lists.size(); z++) {
+        for (size_t x = 0; x < lists[z].size(); x++) {
+            for (size_t y = x + 1; y < lists[z].size(); y++) {
+                const uint32_t front = lists[z][x], rear = lists[z][y];
+                const uint32_t leaving = static_cast<uint32_t>(step_in_route(sheet.carts[front], z)) + 1;
+                const uint32_t entering = static_cast<uint32_t>(step_in_route(sheet.carts[rear], z));
+                const std::string name = "pair " + two_characters(static_cast<int>(front)) + " " + two_characters(static_cast<int>(rear))
+                                         + " at " + two_characters(static_cast<int>(entering));
+                add_between(net, place_pair, name, rear, entering, move_from[rear][entering], front, leaving, move_from[front][leaving]);
+            }
+        }
+    }
+    // #106: "with places for the stop line of #102"
+    for (uint32_t c = 0; c < sheet.carts.size(); c++) {
+        const int front = cart_in_front(sheet, c);
+        if (front < 0) continue;
+        const std::string name = "line " + two_characters(front) + " " + two_characters(static_cast<int>(c));
+        add_between(net, place_line, name, c, 0, move_from[c][0], static_cast<uint32_t>(front), 0, move_from[static_cast<size_t>(front)][0]);
+    }
+    // NET.md: "By cart, then by position, then by the other cart: first the four lines with no other cart, as the table has them [..],
+    // then for each other cart, from the lowest, the three of the stop line and the three of the pair"
+    std::sort(net.lines.begin(), net.lines.end(), [](const NetLine& a, const NetLine& b) {
+        return std::tie(a.cart, a.position, a.other, a.form) < std::tie(b.cart, b.position, b.other, b.form);
+    });
+    return net;
+}
+
+// A transition can fire when each of its arcs finds a token in its place.
+inline bool can_fire(const Net& net, const std::vector<uint32_t>& marking, size_t transition) {
+    std::vector<uint32_t> left = marking;
+    for (size_t place : net.transitions[transition].from) {
+        if (left[place] == 0) return false;
+        left[place]--;
+    }
+    return true;
+}
+
+// #106: "fire transitions until none can fire". The two orders in which they are tried are only there to be compared.
+inline std::vector<uint32_t> fire_all(const Net& net, bool last_first) {
+    std::vector<uint32_t> marking = net.tokens;
+    const size_t count = net.transitions.size();
+    bool fired = true;
+    while (fired) {
+        fired = false;
+        for (size_t i = 0; i < count && !fired; i++) {
+            const size_t t = last_first ? count - 1 - i : i;
+            if (!can_fire(net, marking, t)) continue;
+            for (size_t place : net.transitions[t].from) marking[place]--;
+            for (size_t place : net.transitions[t].to) marking[place]++;
+            fired = true;
+        }
+    }
+    return marking;
+}
+
+// The position whose place has the cart's token, for each cart.
+inline Positions positions_in(const Net& net, const std::vector<uint32_t>& marking) {
+    Positions positions;
+    for (const std::vector<size_t>& places : net.place_at) {
+        uint32_t found = 0, tokens = 0;
+        for (uint32_t p = 0; p < places.size(); p++) {
+            tokens += marking[places[p]];
+            if (marking[places[p]] > 0) found = p;
+        }
+        must(tokens == 1, "each cart has one token");
+        positions.push_back(found);
+    }
+    return positions;
+}
+
+inline std::string text_of_net(const Net& net) {
+    std::string text;
+    for (const NetLine& line : net.lines) text += line.text;
+    return text;
+}
+
+// NET.md: "With m carts, N steps, P pairs in the zones' lists and F carts with one in front on the lane there are 4 N + 5 m + 3 P
+// + 3 F lines."
+inline size_t net_length(const Sheet& sheet, const Lists& lists) {
+    size_t lines = 4 * count_steps(sheet) + 5 * sheet.carts.size();
+    for (const std::vector<uint32_t>& list : lists) lines += 3 * (list.size() * list.size() - list.size()) / 2;
+    for (uint32_t c = 0; c < sheet.carts.size(); c++) lines += cart_in_front(sheet, c) >= 0 ? 3 : 0;
+    return 23 * lines;
+}
+
+// #106: "Refusals: 1 to 21, then 28 for the text's room."
+inline NetAnswer net(const Bytes& sheet_bytes, const Bytes& plan_bytes, const Bytes& room) {
+    NetAnswer answer;
+    answer.room = room;
+    const PlanAnswer plan = read_plan(sheet_bytes, plan_bytes);
+    if (plan.number != 0) {
+        pass_on(plan, answer);
+        return answer;
+    }
+    const Net built = net_of(plan.sheet, plan.lists);
+    const std::string text = text_of_net(built);
+    must(text.size() == net_length(plan.sheet, plan.lists), "as many lines as NET.md says");
+
+    const std::vector<uint32_t> marking = fire_all(built, false);
+    must(marking == fire_all(built, true), "the marking left does not depend on the order");
+    const Positions positions = positions_in(built, marking);
+    bool locked = false;
+    for (const std::vector<size_t>& places : built.place_at) locked = locked || marking[places.back()] == 0;
+    // "Its verdict equals the judge's for every valid sheet and readable plan, and on a locked plan the marking left tells the same
+    // position for each cart."
+    const Verdict& verdict = verdict_of(sheet_bytes, plan_bytes, plan.sheet, plan.lists);
+    must(locked == verdict.locked, "the net's verdict is the judge's");
+    must(positions == run_to_the_end(plan.sheet, orders_of_lists(plan.lists), false), "the net's positions are those of permitted moves");
+    if (verdict.runs.searched) must(positions == verdict.runs.ends[0], "the net's positions are those of the search over all runs");
+    double_check_counts.nets++;
+
+    if (room.size() < text.size()) {
+        answer.number = 28;
+        return answer;
+    }
+    for (size_t i = 0; i < text.size(); i++) answer.room[i] = static_cast<uint8_t>(text[i]);
+    answer.length = static_cast<uint32_t>(text.size());
+    answer.locked = locked;
+    for (size_t c = 0; c < positions.size(); c++) answer.positions[c] = static_cast<uint8_t>(positions[c]);
+    return answer;
+}
+
+// ---------------------------------------------------------------------------------------------
 // The judge program
 // ---------------------------------------------------------------------------------------------
 
@@ -2003,6 +2237,25 @@ inline Printed why_program(const Bytes& standard_input) {
 }
 
 // ---------------------------------------------------------------------------------------------
+// The program that prints the net, with no word or with the word dot
+// ---------------------------------------------------------------------------------------------
+
+// NET.md: the lines "stand in the text's order", between a first and a last one.
+inline std::string dot_of_net(const Net& net) {
+    std::string text = "digraph net {\n";
+    for (const NetLine& line : net.lines) text += line.dot;
+    return text + "}\n";
+}
+
+inline Printed net_program(const Bytes& standard_input, bool dot) {
+    const Parted input = parted(first_2048(standard_input));
+    const PlanAnswer plan = read_plan(input.sheet, input.plan);
+    if (plan.number != 0) return Printed{"", refusal_line(plan)};
+    const Net built = net_of(plan.sheet, plan.lists);
+    return Printed{dot ? dot_of_net(built) : text_of_net(built), ""};
+}
+
+// ---------------------------------------------------------------------------------------------
 // Answers as one line of text, for comparing with another program
 // ---------------------------------------------------------------------------------------------
 
@@ -2100,6 +2353,13 @@ inline std::string to_text(const ChainAnswer& a) {
     std::string text = to_text("why", a) + " chain " + std::to_string(a.links.size());
     for (const ChainLink& link : a.links) text += " " + std::to_string(link.cart) + " " + std::to_string(link.zone);
     return text + " out " + std::to_string(a.out ? 1 : 0);
+}
+
+// net NUMBER PLACE CART STEP length L locked K positions p0 .. p15 (the room is compared by itself)
+inline std::string to_text(const NetAnswer& a) {
+    std::string text = to_text("net", a) + " length " + std::to_string(a.length) + " locked " + std::to_string(a.locked ? 1 : 0) + " positions";
+    for (uint8_t position : a.positions) text += " " + std::to_string(position);
+    return text;
 }
 
 }  // namespace independent

@@ -42,7 +42,8 @@ public:
 // ---------------------------------------------------------------------------------------------
 
 enum Operation {
-    reading_sheet, reading_plan, writing, listing, judging, planning, planning_first, planning_better, asking, moving, telling_why, operations
+    reading_sheet, reading_plan, writing, listing, judging, planning, planning_first, planning_better, asking, moving, telling_why, writing_net,
+    operations
 };
 
 // Answers counted by number, and by the cart and step of #104, both 0 where none is told.
@@ -72,6 +73,7 @@ struct Tally {
     uint64_t planners[cases::planners_situations] = {};
     uint64_t line[cases::line_situations] = {};
     uint64_t chain[cases::chain_situations] = {};
+    uint64_t net[cases::net_situations] = {};
 
     void count(Operation operation, const Outcome& outcome) { answers[operation].count(outcome); }
     void add(const Tally& other) {
@@ -82,6 +84,7 @@ struct Tally {
         for (int s = 0; s < cases::planners_situations; s++) planners[s] += other.planners[s];
         for (int s = 0; s < cases::line_situations; s++) line[s] += other.line[s];
         for (int s = 0; s < cases::chain_situations; s++) chain[s] += other.chain[s];
+        for (int s = 0; s < cases::net_situations; s++) net[s] += other.net[s];
     }
 };
 
@@ -258,6 +261,14 @@ inline Parts parts_of(const oblakosh_chain& chain) {
     return parts;
 }
 
+inline Parts parts_of(const oblakosh_net_run& run) {
+    Parts parts(run.outcome);
+    parts.add("length", run.length);
+    parts.add("locked", run.locked);
+    parts.add("position", run.position);
+    return parts;
+}
+
 // ---------------------------------------------------------------------------------------------
 // The independent program's answers in the header's form; unused entries are 0
 // ---------------------------------------------------------------------------------------------
@@ -368,6 +379,15 @@ inline oblakosh_chain as_declared(const independent::ChainAnswer& answer) {
     return declared;
 }
 
+inline oblakosh_net_run as_declared(const independent::NetAnswer& answer) {
+    oblakosh_net_run declared = {};
+    declared.outcome = outcome_of(answer);
+    declared.length = answer.length;
+    declared.locked = answer.locked ? 1 : 0;
+    for (size_t c = 0; c < 16; c++) declared.position[c] = answer.positions[c];
+    return declared;
+}
+
 // ---------------------------------------------------------------------------------------------
 // One case through both
 // ---------------------------------------------------------------------------------------------
@@ -409,6 +429,7 @@ public:
             }
         }
         judge();
+        for (const Bytes& room : c.net_rooms) write_net(room);
         for (const MoveRequest& request : c.move_requests) {
             try {
                 move(request);
@@ -522,6 +543,18 @@ private:
         tally.rings[answer.ring.size()]++;
         if (answer.number != 0 && answer.number != 22) return;
         for (cases::LineSituation found : cases::line_situations_judged(readable.sheet, readable.lists, answer)) tally.line[found]++;
+    }
+
+    void write_net(const Bytes& lent) {
+        const independent::NetAnswer answer = independent::net(c.sheet, c.plan, lent);
+        Lent<uint8_t> room(lent);
+        must_be_same("oblakosh_net", answer, as_declared(answer),
+                     oblakosh_net(sheet.first(), sheet.size(), plan.first(), plan.size(), room.first(), room.size()));
+        room.must_hold(answer.room, "oblakosh_net");
+        inputs_must_be_unchanged("oblakosh_net");
+        tally.count(writing_net, answer);
+        if (answer.number != 0 && answer.number != 28) return;
+        for (cases::NetSituation found : cases::situations_of(readable.sheet, readable.lists, lent.size(), answer)) tally.net[found]++;
     }
 
     // Asking stores nothing; moving stores what the independent program's record has.

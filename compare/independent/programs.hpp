@@ -1,4 +1,4 @@
-// The judge program, the planner program and the program that says why run as processes, each output held beside the independent program's.
+// The programs run as processes, each output held beside the independent program's.
 
 #ifndef PROGRAMS_HPP
 #define PROGRAMS_HPP
@@ -21,6 +21,7 @@ using library::Difference;
 constexpr const char* judge_path = "target/bin/judge_main";
 constexpr const char* planner_path = "target/bin/plan_main";
 constexpr const char* why_path = "target/bin/why_main";
+constexpr const char* net_path = "target/bin/net_main";
 constexpr const char* folder = "target/compare/";
 
 inline std::string text_in(const std::string& file) {
@@ -79,6 +80,22 @@ inline Outcome compare_why(const Bytes& input) {
     const std::string command = std::string(why_path) + (wanted.errors.empty() ? " && cat" : "; cat");
     must_print(command, input, wanted, run("why", command, input));
     return outcome;
+}
+
+// The same of the program that prints the net, which says a refusal as standard error.
+inline Outcome compare_net(const Bytes& input, bool dot) {
+    Printed wanted = independent::net_program(input, dot);
+    const Outcome outcome = outcome_in(wanted.errors);
+    wanted.output += to_string(input).substr(std::min<size_t>(input.size(), 2048));
+    const std::string command = std::string(net_path) + (dot ? " dot" : "") + " && cat";
+    must_print(command, input, wanted, run("net", command, input));
+    return outcome;
+}
+
+// Other words are none of its: what it gives back then is not said.
+inline void compare_net_words(const std::string& words) {
+    const std::string command = std::string(net_path) + " " + words + " || true";
+    must_print(command, {}, Printed{"", "oblakosh: net_main takes no word, or dot\n"}, run("net", command, {}));
 }
 
 // The word that asks the planner program for this planner.

@@ -321,6 +321,19 @@ static void run_case(Random& random, const Case& c, bool whole_run) {
     if (verdict.number != 0) check(verdict.words == c.words && verdict.finish == 0 && verdict.moves == 0, "refused");
     check(passes_on(verdict, plan), "judging refuses as reading");
 
+    for (const Bytes& room : c.net_rooms) {
+        const NetAnswer written = net(c.sheet, c.plan, room);
+        check(written.number <= 21 || written.number == 28, "the net has 1 to 21 and 28");
+        check(passes_on(written, plan), "the net refuses as reading");
+        if (written.number != 0) {
+            check(written.room == room && written.length == 0 && !written.locked && written.positions == Record().positions, "refused: room as lent");
+            check((written.number == 28) == (plan.number == 0), "the net: 28");
+            continue;
+        }
+        check(written.locked == (verdict.number == 22), "the net's verdict is the judge's");
+        check(std::equal(room.begin() + written.length, room.end(), written.room.begin() + written.length), "the net: bytes beyond");
+    }
+
     for (Planner planner : {Planner::removal, Planner::first_come, Planner::better}) {
         const PlanningAnswer planning = make_plan(c.sheet, c.planning_room, planner);
         check(planning.number <= 14 || planning.number == 28, "planning has 1 to 14 and 28");
@@ -408,6 +421,7 @@ static void check_spoilt(const cases::SpoiltSheet& spoilt, const Bytes& plan) {
     check(same_outcome(judge(spoilt.bytes, plan, std::vector<uint32_t>(128, 0)), wanted), "parts: judging");
     check(same_outcome(move_cart(spoilt.bytes, plan, Record(), 0), wanted), "parts: moving");
     check(same_outcome(why(spoilt.bytes, plan, Record(), 0), wanted), "parts: why");
+    check(same_outcome(net(spoilt.bytes, plan, Bytes(9, 0)), wanted), "parts: the net");
     for (Planner planner : {Planner::removal, Planner::first_come, Planner::better}) {
         check(same_outcome(make_plan(spoilt.bytes, Bytes(156, 0), planner), wanted), "parts: planning");
     }
@@ -656,6 +670,180 @@ static void check_chains() {
 }
 
 // ---------------------------------------------------------------------------------------------
+// The net of #106
+// ---------------------------------------------------------------------------------------------
+
+static uint64_t net_seen[cases::net_situations] = {};
+static uint64_t nets_read_back = 0, nets_locked = 0;
+
+// A net that was read from its text: by their names, the places with a token, the others, the transitions, and the arcs.
+struct ReadNet {
+    std::set<std::string> marked, unmarked, transitions;
+    std::set<std::pair<std::string, std::string>> arcs;
+    bool operator==(const ReadNet& other) const {
+        return marked == other.marked && unmarked == other.unmarked && transitions == other.transitions && arcs == other.arcs;
+    }
+};
+
+// What docs/NET.md's table says of each line. A text that can be read back to its net is no other net's.
+static ReadNet read_net(const std::string& text) {
+    ReadNet net;
+    check(text.size() % 23 == 0, "net: lines of 23 bytes");
+    for (size_t at = 0; at < text.size(); at += 23) {
+        const std::string line = text.substr(at, 23), word = line.substr(0, 10);
+        const std::string c = line.substr(11, 2), p = line.substr(14, 2), d = line.substr(17, 2), q = line.substr(20, 2);
+        check(line.back() == '\n' && line[10] == ' ' && line[13] == ' ' && line[16] == ' ' && line[19] == ' ', "net: the form of a line");
+        check((d == "--") == (word.find("line") == std::string::npos && word.find("pair") == std::string::npos), "net: the other cart");
+        check((q == "--") == (word != "arc > line" && word != "arc > pair"), "net: the other cart's position");
+        const std::string next = std::string(1, p[0]) + static_cast<char>(p[1] + 1);              // no position is above 9
+        const std::string move = c + " from " + p, line_place = "line " + d + " " + c, pair_place = "pair " + d + " " + c + " at " + p;
+        if (word == "place cart") {
+            (p == "00" ? net.marked : net.unmarked).insert(c + " at " + p);
+        } else if (word == "transition") {
+            net.transitions.insert(move);
+        } else if (word == "arc cart >") {
+            net.arcs.insert({c + " at " + p, move});
+        } else if (word == "arc > cart") {
+            net.arcs.insert({move, c + " at " + next});
+        } else if (word == "place line") {
+            net.unmarked.insert(line_place);
+        } else if (word == "arc > line") {
+            net.arcs.insert({d + " from " + q, line_place});
+        } else if (word == "arc line >") {
+            net.arcs.insert({line_place, move});
+        } else if (word == "place pair") {
+            net.unmarked.insert(pair_place);
+        } else if (word == "arc > pair") {
+            net.arcs.insert({d + " from " + q, pair_place});
+        } else {
+            check(word == "arc pair >", "net: a word of the table");
+            net.arcs.insert({pair_place, move});
+        }
+    }
+    return net;
+}
+
+// The same of the net that was built.
+static ReadNet as_read(const Net& net) {
+    ReadNet read;
+    for (size_t p = 0; p < net.places.size(); p++) {
+        check(net.tokens[p] <= 1 && (net.tokens[p] == 1 ? read.marked : read.unmarked).insert(net.places[p]).second, "net: places have names of their own");
+    }
+    for (size_t t = 0; t < net.transitions.size(); t++) {
+        check(read.transitions.insert(net.names[t]).second, "net: transitions have names of their own");
+        for (size_t place : net.transitions[t].from) check(read.arcs.insert({net.places[place], net.names[t]}).second, "net: no arc twice");
+        for (size_t place : net.transitions[t].to) check(read.arcs.insert({net.names[t], net.places[place]}).second, "net: no arc twice");
+    }
+    return read;
+}
+
+// The net of a readable plan: into room exactly long enough, one byte short and longer; its text read back; its end as a run's.
+static void check_net(const Sheet& sheet, const Lists& lists, const Positions& end) {
+    const Bytes bytes = cases::sheet_to_bytes(sheet);
+    const Bytes plan = cases::plan_to_bytes(lists);
+    const Net built = net_of(sheet, lists);
+    const std::string text = text_of_net(built);
+    check(text.size() <= 80891, "net: the longest text has 80,891 bytes");
+    check(read_net(text) == as_read(built), "net: the text is read back to the net");
+    nets_read_back++;
+    bool all_out = true;
+    for (uint32_t c = 0; c < sheet.carts.size(); c++) all_out = all_out && end[c] == sheet.carts[c].steps.size() + 1;
+    if (!all_out) nets_locked++;
+    const uint32_t length = static_cast<uint32_t>(text.size());
+    for (uint32_t size = length > 0 ? length - 1 : 0; size <= length + 1; size++) {
+        const NetAnswer answer = net(bytes, plan, Bytes(size, 171));
+        for (cases::NetSituation found : cases::situations_of(sheet, lists, size, answer)) net_seen[found]++;
+        if (size < length) {
+            check(same_outcome(answer, Outcome{28, 0, 0, 0}) && answer.room == Bytes(size, 171), "net: one byte short");
+            continue;
+        }
+        check(answer.number == 0 && answer.length == length && std::equal(text.begin(), text.end(), answer.room.begin()), "net: the text");
+        check(size == length || answer.room[length] == 171, "net: bytes beyond the text");
+        check(answer.locked == !all_out, "net: locked exactly if the runs do not bring all out");
+        for (uint32_t c = 0; c < 16; c++) check(answer.positions[c] == (c < end.size() ? end[c] : 0), "net: the runs' positions");
+    }
+}
+
+// #106 by hand.
+static void net_examples() {
+    const Bytes A = cases::from_hex("01 000A 02 02 00 01 02 00 01");
+    const Bytes B = cases::from_hex("01 000A 02 02 00 01 02 01 00");
+    const auto alone = [](const std::string& cart, int last) {
+        std::vector<std::string> text(static_cast<size_t>(last) + 1);
+        for (int p = 0; p <= last; p++) {
+            const std::string rest = " " + cart + " 0" + std::to_string(p) + " -- --\n";
+            text[static_cast<size_t>(p)] = "place cart" + rest;
+            if (p < last) text[static_cast<size_t>(p)] += "transition" + rest + "arc cart >" + rest + "arc > cart" + rest;
+        }
+        return text;
+    };
+    const std::vector<std::string> first = alone("00", 3), second = alone("01", 3);
+    const std::string first_cart = first[0] + first[1] + first[2] + first[3];
+    const std::string pair_1 = "place pair 01 00 00 --\narc > pair 01 00 00 02\narc pair > 01 00 00 --\n";
+    const std::string pair_0 = "place pair 01 01 00 --\narc > pair 01 01 00 01\narc pair > 01 01 00 --\n";
+    const std::string line = "place line 01 00 00 --\narc > line 01 00 00 00\narc line > 01 00 00 --\n";
+    check(net_program(together(S, A), false).output == first_cart + second[0] + pair_1 + second[1] + pair_0 + second[2] + second[3], "net: S with A");
+    const std::string pair_b = "place pair 00 01 01 --\narc > pair 00 01 01 01\narc pair > 00 01 01 --\n";
+    check(net_program(together(S, B), false).output ==
+              first[0] + first[1] + pair_b + first[2] + first[3] + second[0] + second[1] + pair_0 + second[2] + second[3],
+          "net: S with B");
+    Bytes one_lane = S;
+    one_lane[29] = 0;
+    check(net_program(together(one_lane, A), false).output ==
+              first_cart + second[0] + line + pair_1 + second[1] + pair_0 + second[2] + second[3],
+          "net: S on one lane with A");
+    const NetAnswer a = net(S, A, Bytes(23 * 32, 0)), b = net(S, B, Bytes(23 * 32, 0));
+    check(a.number == 0 && !a.locked && a.length == 23 * 32 && a.positions == record({3, 3}, 0).positions, "net: S with A ends with both out");
+    check(b.number == 0 && b.locked && b.length == 23 * 32 && b.positions == record({1, 1}, 0).positions, "net: S with B ends with both in");
+    check(net(S, A, Bytes(23 * 32 - 1, 0)).number == 28, "net: one byte short");
+    const NetAnswer none = net(cases::from_hex("01 0009 01 0000 0000 00"), cases::from_hex("01 0005 01 00"), {});
+    check(none.number == 0 && none.length == 0 && !none.locked, "net: no carts, no text, no room");
+
+    const Bytes no_carts = cases::from_hex("01 0009 01 0000 0000 00 01 0005 01 00");
+    check(net_program(no_carts, false).output.empty() && net_program(no_carts, true).output == "digraph net {\n}\n", "net: no carts, as dot");
+    // one cart of one step
+    const Bytes one = cases::from_hex("01 0014 01 0000 0000 01 00 00000000 01 00 0001 0000 01 0006 01 01 00");
+    check(net_program(one, true).output ==
+              "digraph net {\n"
+              "\"00 at 00\" [shape=circle label=\"&bull;\" xlabel=\"00 at 00\"]\n"
+              "\"00 from 00\" [shape=box]\n"
+              "\"00 at 00\" -> \"00 from 00\"\n"
+              "\"00 from 00\" -> \"00 at 01\"\n"
+              "\"00 at 01\" [shape=circle label=\"\" xlabel=\"00 at 01\"]\n"
+              "\"00 from 01\" [shape=box]\n"
+              "\"00 at 01\" -> \"00 from 01\"\n"
+              "\"00 from 01\" -> \"00 at 02\"\n"
+              "\"00 at 02\" [shape=circle label=\"\" xlabel=\"00 at 02\"]\n"
+              "}\n",
+          "net: one cart, as dot");
+    const std::string dot = net_program(together(one_lane, A), true).output;
+    for (const char* part : {"\"line 00 01\" [shape=circle label=\"\" xlabel=\"line 00 01\"]\n\"00 from 00\" -> \"line 00 01\"\n\"line 00 01\" -> \"01 from 00\"\n",
+                             "\"pair 00 01 at 00\" [shape=circle label=\"\" xlabel=\"pair 00 01 at 00\"]\n"
+                             "\"00 from 02\" -> \"pair 00 01 at 00\"\n\"pair 00 01 at 00\" -> \"01 from 00\"\n"}) {
+        check(dot.find(part) != std::string::npos, "net: a line and a pair, as dot");
+    }
+    check(net_program(S, false).errors == "refused 15 at 0\n" && net_program(S, false).output.empty(), "net: refused");
+}
+
+// The largest nets, and random ones of all sizes; the small ones are held to the search below.
+static void check_nets() {
+    net_examples();
+    const Sheet largest = cases::sheet_of_longest_net();
+    const Lists only_plan = cases::visitors_of(largest);
+    check(text_of_net(net_of(largest, only_plan)).size() == 80891, "net: 16 carts of 8 steps in 8 zones on one lane");
+    check_net(largest, only_plan, run_to_the_end(largest, orders_of_lists(only_plan), false));
+    Random random(106);
+    for (uint32_t i = 0; i < 60; i++) {
+        const Sheet sheet = cases::random_sheet(random, i % 3 == 0 ? cases::crowded_shape() : cases::large_shape());
+        const Lists lists = i % 2 == 0 ? cases::one_order_lists(random, sheet) : cases::nearly_one_order_lists(random, sheet);
+        check_net(sheet, lists, run_to_the_end(sheet, orders_of_lists(lists), true));
+    }
+    Sheet empty;
+    empty.zones = {Zone(), Zone()};
+    check_net(empty, {{}, {}}, {});
+}
+
+// ---------------------------------------------------------------------------------------------
 // The stop line of #102
 // ---------------------------------------------------------------------------------------------
 
@@ -812,6 +1000,7 @@ static void check_line(LineCounts& counts, const Sheet& sheet, const Lists& list
     const JudgeAnswer judged = judge(bytes, plan, std::vector<uint32_t>(128, 0));
     check(judged.number == (searched.all_out ? 0u : 22u), "22 exactly if the search locks");
     for (cases::LineSituation found : cases::line_situations_judged(sheet, lists, judged)) line_seen[found]++;
+    check_net(sheet, lists, searched.end);
     for (const Positions& state : searched.reached) {
         for (uint32_t a = 0; a < m; a++) {
             for (uint32_t b = 0; b < a; b++) {
@@ -1241,6 +1430,7 @@ int main(int words, char** word) {
             check(planners_seen[s] > 0, std::string("planners: never seen ") + cases::planners_situation_names[s]);
         }
         check_chains();
+        check_nets();
         line_examples();
         check_line_on_small();
         for (int s = 0; s < cases::line_situations; s++) {
@@ -1249,6 +1439,11 @@ int main(int words, char** word) {
         for (int s = 0; s < cases::chain_situations; s++) {
             check(chain_seen[s] > 0, std::string("chains: never seen ") + cases::chain_situation_names[s]);
         }
+        for (int s = 0; s < cases::net_situations; s++) {
+            check(net_seen[s] > 0, std::string("nets: never seen ") + cases::net_situation_names[s]);
+        }
+        std::printf("selftest: the text of %llu nets read back, %llu of them locked; their ends are the search's\n",
+                    static_cast<unsigned long long>(nets_read_back), static_cast<unsigned long long>(nets_locked));
     } catch (const std::exception& error) {
         std::fprintf(stderr, "selftest: failed: %s\n", error.what());
         return 1;

@@ -21,6 +21,7 @@ void *raw_ask(void *answer, const uint8_t *s, size_t s_length, const uint8_t *p,
               size_t cart) RAW(ask);
 void *raw_move_cart(void *answer, const uint8_t *s, size_t s_length, const uint8_t *p, size_t p_length, oblakosh_record *record,
                     size_t cart) RAW(move_cart);
+void *raw_net(void *answer, const uint8_t *s, size_t s_length, const uint8_t *p, size_t p_length, uint8_t *room, size_t room_length) RAW(net);
 void *raw_why(void *answer, const uint8_t *s, size_t s_length, const uint8_t *p, size_t p_length, oblakosh_record record,
               size_t cart) RAW(why);
 
@@ -375,6 +376,48 @@ static void telling_why(void)
     TAKE(oblakosh_chain, not_told);
     IS_REFUSED(not_told.outcome);
 }
+
+/* Lines of the net's text: by cart and position, by pair in a zone's list, and by cart with one in front on its lane, of which there
+   is none. */
+static size_t lines_of(const crossing *c)
+{
+    size_t lines = 0;
+    for (int i = 0; i < OBLAKOSH_CARTS; i++) {
+        lines += 4u * c->sheet.steps[i] + 5;
+    }
+    for (int z = 0; z < OBLAKOSH_ZONES; z++) {
+        lines += 3u * c->orders.count[z] * (c->orders.count[z] - 1u) / 2;
+    }
+    return lines;
+}
+
+static void writing_the_net(void)
+{
+    static const char first[] = "place cart 00 00 -- --\ntransition 00 00 -- --\n";
+    static uint8_t text[OBLAKOSH_NET];
+    raw_net(blank(), SHEET(apart), PLAN(apart), text, sizeof text);
+    TAKE(oblakosh_net_run, ran);
+    IS_DONE(ran.outcome);
+    IS(ran.length, 23 * lines_of(&apart));
+    IS(ran.locked, 0);
+    for (int i = 0; i < OBLAKOSH_CARTS; i++) {
+        IS(ran.position[i], apart.sheet.steps[i] + 1);
+    }
+    IS(memcmp(text, first, sizeof first - 1), 0);
+    IS(text[ran.length - 1], '\n');
+    IS(text[ran.length], 0);
+    raw_net(blank(), SHEET(locked), PLAN(locked), text, sizeof text);
+    TAKE(oblakosh_net_run, lock);
+    IS_DONE(lock.outcome);
+    IS(lock.length, 23 * lines_of(&locked));
+    IS(lock.locked, 1);
+    for (int i = 0; i < OBLAKOSH_CARTS; i++) {
+        IS(lock.position[i], 1);
+    }
+    raw_net(blank(), SHEET(refused), PLAN(apart), text, sizeof text);
+    TAKE(oblakosh_net_run, not_written);
+    IS_REFUSED(not_written.outcome);
+}
 #endif
 
 int main(void)
@@ -395,6 +438,7 @@ int main(void)
     finding_a_list();
     moving();
     telling_why();
+    writing_the_net();
 #endif
     return failed;
 }

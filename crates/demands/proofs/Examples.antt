@@ -39,11 +39,13 @@ use Rattle.moving_asking.specs.Ahead.{countAhead, aheadOf}
 use Rattle.moving_asking.specs.Asking.{ask}
 use Rattle.moving_why.specs.Why.{chainFrom, why}
 use Rattle.moving.specs.Moving.{recordAfter}
-use Rattle.demands.specs.Examples.{firstCost, leavingTimes, Holds, examples, stopLine, whyNot}
+use Rattle.net_text.specs.Lines.{bytes, lineText, textOf, ownLines, otherLines, positionLines, cartLines, netLines, netText}
+use Rattle.demands.specs.Examples.{firstCost, leavingTimes, Holds, sheetS, planA, planB, sheetL, planL, examples, stopLine, whyNot, besideJudge}
+use Rattle.demands.proofs.PetriNet.{net-is}
 
 -- all tables, by computing
-all-hold : All Holds examples × All Holds stopLine × All Holds whyNot
-unfolding firstCost leavingTimes planSheet roomAfter planned orderedBy ordersBy passingLists finalOrders decisions solved trial turn decide candidates while turns largestCost cost isTakenOver spareTime spareRule leastOf workedBack movesMade isOut enteringTime isUndecided goesBefore pairOrder isPair rank isDecided written listsBytes listBytes bytesOf sumBelow setBelow readSheet readPlan judge wordsAfter ask recordAfter why chainFrom heldFor aheadOf countAhead isReached isInRange isClosed lockedRing timeWords lowestStuck ringFrom nextInFront highest lowest isPermitted greedy end put workedOut leastFrom between ringFirst ringRest allBelow placeOf isAhead firstOf largest entering finish givenBy ordersOf sheetChecks zoneChecks stepChecks cartChecks laneChecks firstFailing fieldChecks value each entries anyBelow countBelow cartAt sheetOf countAt planChecks listChecks planCartChecks planLaneChecks
+all-hold : All Holds examples × All Holds stopLine × All Holds whyNot × All Holds besideJudge
+unfolding firstCost leavingTimes planSheet roomAfter planned orderedBy ordersBy passingLists finalOrders decisions solved trial turn decide candidates while turns largestCost cost isTakenOver spareTime spareRule leastOf workedBack movesMade isOut enteringTime isUndecided goesBefore pairOrder isPair rank isDecided written listsBytes listBytes bytesOf sumBelow setBelow readSheet readPlan judge wordsAfter ask recordAfter why chainFrom heldFor aheadOf countAhead isReached isInRange isClosed lockedRing timeWords lowestStuck ringFrom nextInFront highest lowest isPermitted greedy end put workedOut leastFrom between ringFirst ringRest allBelow placeOf isAhead firstOf largest entering finish givenBy ordersOf sheetChecks zoneChecks stepChecks cartChecks laneChecks firstFailing fieldChecks value each entries anyBelow countBelow cartAt sheetOf countAt planChecks listChecks planCartChecks planLaneChecks netText netLines cartLines positionLines ownLines otherLines textOf lineText bytes
 all-hold = (
   (
     (refl, refl),
@@ -90,6 +92,10 @@ all-hold = (
   ),
   ((refl, refl), ((refl, refl), ((refl, refl), tt))),
   (refl, (refl, (refl, (refl, (refl, (refl, (refl, tt))))))),
+  (
+    net-is (sheetS 1) planA 736,
+    (net-is (sheetS 1) planB 736, (net-is (sheetS 1) planB 735, (net-is sheetL planL 483, (net-is (sheetS 0) planB 736, tt)))),
+  ),
 )
 
 pub examples-hold : All Holds examples
@@ -102,3 +108,7 @@ stop-line-holds = all-hold .1
 -- and for request #105
 pub why-not-holds : All Holds whyNot
 why-not-holds = all-hold .2
+
+-- and for request #106
+pub beside-judge-holds : All Holds besideJudge
+beside-judge-holds = all-hold .3

@@ -22,6 +22,7 @@ use Rattle.planner.specs.Planning.{planned, planningChecks}
 use Rattle.moving_record.specs.declared.Record.{Record}
 use Rattle.moving_asking.specs.Asking.{recordChecks, movingChecks}
 use Rattle.moving_why.specs.Why.{chainFrom, whyChecks}
+use Rattle.net.specs.Netting.{netChecks}
 use Rattle.demands.specs.DemandOne.{AnswersOrRefuses, answers, refuses}
 use Rattle.demands.specs.WhichCart.{CartTold}
 
@@ -61,6 +62,9 @@ module _ (s : List ℕ) where
     why-keeps : (lent : Record) (cart : ℕ) → Keeps Tells (whyChecks s p lent cart)
     why-keeps lent cart = reading-keeps with record-keeps lent cart
 
+    netting-keeps : (room : ℕ) → Keeps Tells (netChecks s p room)
+    netting-keeps room = reading-keeps with record { all = (own 28 (lit< tt), tt) }
+
   -- answers that tell their outcome: a refusal its own, the others done
   told : {R : Type 0} (outcome : R → Outcome) {refuse : Outcome → R} {answer : R} {checks : List Check} → ((o : Outcome) → outcome (refuse o) ≡ o)
       → outcome answer ≡ done → Keeps Tells checks → (r : R) → AnswersOrRefuses refuse answer checks r → Told s (outcome r)
@@ -80,4 +84,5 @@ cart-told =
       asked = λ s p lent cart r. told s (λ x. x .outcome) (λ _. refl) refl (moving-keeps s p lent cart) r;
       why-told = λ s p lent cart r. told s (λ x. x .outcome) (λ _. refl) refl (why-keeps s p lent cart) r;
       moved = λ s p lent cart r after h. told s (λ x. x .outcome) (λ _. refl) refl (moving-keeps s p lent cart) r (h .answer);
+      netted = λ s p room r after h. told s (λ x. x .outcome) (λ _. refl) refl (netting-keeps s p (length room)) r (h .answer);
     }

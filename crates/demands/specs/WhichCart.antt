@@ -14,7 +14,8 @@ use Rattle.moving_record.specs.declared.Record.{Record}
 use Rattle.moving_asking.specs.declared.Asked.{Asked}
 use Rattle.moving_why.specs.declared.Chain.{Chain}
 use Rattle.demands.specs.DemandOne.{ReadingASheet, ReadingAPlan, WritingAgain, FindingAList, JudgingAPlan, PlanningASheet}
-use Rattle.demands.specs.DemandOne.{AskingToMove, AskingWhy, MovingACart}
+use Rattle.net.specs.declared.NetRun.{NetRun}
+use Rattle.demands.specs.DemandOne.{AskingToMove, AskingWhy, MovingACart, NettingAPlan}
 
 -- of each public operation that tells an outcome, for every input, by demand 1's promise alone
 pub record CartTold : Type 0 where
@@ -27,3 +28,4 @@ pub record CartTold : Type 0 where
   pub asked : (s p : List ℕ) (lent : Record) (cart : ℕ) (r : Asked) → AskingToMove s p lent cart r → Told s (r .outcome)
   pub why-told : (s p : List ℕ) (lent : Record) (cart : ℕ) (r : Chain) → AskingWhy s p lent cart r → Told s (r .outcome)
   pub moved : (s p : List ℕ) (lent : Record) (cart : ℕ) (r : Asked) (after : Record) → MovingACart s p lent cart r after → Told s (r .outcome)
+  pub netted : (s p room : List ℕ) (r : NetRun) (after : List ℕ) → NettingAPlan s p room r after → Told s (r .outcome)

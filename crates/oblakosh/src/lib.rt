@@ -4,6 +4,7 @@ use judge::Judged;
 use moving_asking::Asked;
 use moving_record::Record;
 use moving_why::Chain;
+use net::NetRun;
 use plan::PlanRead;
 use plan_writer::PlanWritten;
 use plan_zone_list::ListFound;
@@ -20,6 +21,7 @@ ghost use Rattle.planner.specs.Planning as planning;
 ghost use Rattle.planner.specs.declared.Rule.the-variants.{Removal, First, Better};
 ghost use Rattle.moving_asking.specs.Asking.{ask};
 ghost use Rattle.moving_why.specs.Why.{why};
+ghost use Rattle.net.specs.Netting.{NetRunIs, roomAfter as netRoomAfter};
 
 // Reading a sheet: 1 to 14.
 #[no_mangle]
@@ -104,4 +106,13 @@ pub extern "C" fn oblakosh_why(s: &[u8], p: &[u8], lent: Record, cart: usize) ->
     ensures { λ r. ⌜ r ≡ why (now (s .entry)) (now (p .entry)) lent cart ⌝ }
 {
     moving_why::why(s, p, lent, cart)
+}
+
+// The Petri net beside the judge, fired until no transition can fire and written as text: 1 to 21, then 28.
+#[no_mangle]
+pub extern "C" fn oblakosh_net(s: &[u8], p: &[u8], room: &mut [u8]) -> NetRun
+    ensures answer { λ r. ⌜ NetRunIs (now (s .entry)) (now (p .entry)) (length (now (room .entry))) r ⌝ }
+    ensures holds { λ r. ⌜ now (room .exit) ≡ netRoomAfter (now (s .entry)) (now (p .entry)) (now (room .entry)) ⌝ }
+{
+    net::net(s, p, room)
 }

@@ -6,7 +6,7 @@ use libc::STDERR_FILENO;
 use libc::STDIN_FILENO;
 use libc::STDOUT_FILENO;
 use planner::Planned;
-use words::Outcome;
+use sheet_text::tell_refusal;
 
 // What the program's words ask for.
 enum Wanted {
@@ -39,22 +39,6 @@ fn of_words() -> Wanted {
     of_word(&word[..n])
 }
 
-// A number after its name.
-fn tell(name: &[u8], n: u64) {
-    io::write_all(STDERR_FILENO, name);
-    io::print_decimal(STDERR_FILENO, n);
-}
-
-fn tell_refusal(outcome: Outcome) {
-    tell(b"refused ", outcome.number as u64);
-    tell(b" at ", outcome.place as u64);
-    if outcome.cart != 0 {
-        tell(b" cart ", outcome.cart as u64);
-        tell(b" step ", outcome.step as u64);
-    }
-    io::write_all(STDERR_FILENO, b"\n");
-}
-
 // The first n of the bytes; all, where there are not so many.
 fn first_bytes(bytes: &[u8], n: usize) -> &[u8] {
     if n <= bytes.len() { &bytes[..n] } else { bytes }
@@ -63,7 +47,7 @@ fn first_bytes(bytes: &[u8], n: usize) -> &[u8] {
 fn write_planned(planned: Planned, room: &[u8; 156]) {
     let outcome = planned.outcome;
     if outcome.number != 0 {
-        tell_refusal(outcome);
+        tell_refusal(STDERR_FILENO, outcome);
         return;
     }
     io::write_all(STDOUT_FILENO, first_bytes(room, planned.length));

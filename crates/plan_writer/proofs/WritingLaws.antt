@@ -1,22 +1,19 @@
 -- Bytes stored one after the other: storing what is left gives the whole.
-use Prim.Native.Nat.{ℕ, suc, _+_, _-_, _/_, _%_, _≤_, _<_}
+use Prim.Native.Nat.{ℕ, _+_, _-_, _/_, _%_, _≤_, _<_}
 use mathlib.Core.Path.{_≡_, refl, sym, ap, ap₂, _∙_}
-use mathlib.Core.List.{List, [], _∷_, _++_}
+use mathlib.Core.List.{List, [], _∷_}
 use native.Mathlib.Omega.{arith}
 use native.Mathlib.Nat.{mod-eq-of-lt}
 use lib.ListN.{length, set, length-append}
 use lib.Seq.{sets, length-sets}
 use Rattle.words.specs.Lists.{each}
 use Rattle.words.proofs.Entries.{length-each}
+use Rattle.words.proofs.Stores.{sets-append}
 use Rattle.words.proofs.Left.{left-suc, left-zero, left-all}
 use Rattle.fields.specs.Bytes.{bytesOf}
 use Rattle.fields.proofs.BytesLaws.{length-bytesOf}
 use Rattle.plan.specs.Written.{count, listed, listBytes, listsBytes, written}
 use Rattle.plan.specs.declared.Orders.{Orders}
-
-pub sets-append : (room : List ℕ) (at : ℕ) (a b : List ℕ) → sets room at (a ++ b) ≡ sets (sets room at a) (at + length a) b
-sets-append room at [] b = ap (λ (x : ℕ). sets room x b) (omega arith)
-sets-append room at (v ∷ a) b = sets-append (set room at v) (suc at) a b ∙ ap (λ (x : ℕ). sets (sets (set room at v) (suc at) a) x b) (omega arith)
 
 pub byte-is : (v : ℕ) → v < 256 → bytesOf 1 v ≡ v ∷ []
 unfolding bytesOf

@@ -1,24 +1,18 @@
 -- The candidates of a group are its undecided pairs in both directions, and nothing else.
 use Prim.Native.Nat.{ℕ}
-use mathlib.Core.Path.{_≡_, refl, subst, sym}
-use mathlib.Core.Logic.{_↔_, inl, inr}
+use mathlib.Core.Path.{_≡_, refl}
+use mathlib.Core.Logic.{_↔_}
 use mathlib.Core.Bool.{Bool, true, false}
-use mathlib.Core.List.{List, [], _∷_, List·Memᴰ·head, List·Memᴰ·not-nil, List·Memᴰ·cases-cons}
+use mathlib.Core.List.{List, [], _∷_, List·Memᴰ·head}
 use native.Mathlib.Omega.{arith}
-use Rattle.words.specs.Lists.{All, each}
+use Rattle.words.specs.Lists.{each}
+use Rattle.words.proofs.Members.{all-among, each-has}
 use Rattle.removal.specs.Pairs.{Unplanned, Order}
 use Rattle.removal.specs.Present.{isUndecided}
 use Rattle.removal.specs.Removal.{candidates}
 use Rattle.removal.proofs.Candidates.{IsCandidate, undecided-says, candidates-are}
 use Rattle.planner_costs.proofs.Strict.{clash}
-use Rattle.planner_costs.proofs.Members.{each-has}
 use Rattle.planner_costs.proofs.Largest.{Among}
-
--- what holds of all holds of each
-all-among : (P : Order → Type 0) (orders : List Order) → All P orders → (o : Order) → Among orders o → P o
-all-among P [] all o m = absurd (List·Memᴰ·not-nil m)
-all-among P (p ∷ orders) (here, later) o m =
-    elim (List·Memᴰ·cases-cons m) [ inl e ↦ subst P (sym e) here | inr l ↦ all-among P orders later o l ]
 
 -- an order where the test holds, as a list
 abbrev where-true : Bool → Order → List Order

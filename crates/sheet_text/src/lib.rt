@@ -6,28 +6,40 @@ use words::least;
 ghost use Prim.Native.Nat.{_<_};
 
 // A number after its name.
+fn tell(to: i32, name: &[u8], n: u64) {
+    io::write_all(to, name);
+    io::print_decimal(to, n);
+}
+
 pub fn put(name: &[u8], n: u64) {
-    io::write_all(STDOUT_FILENO, name);
-    io::print_decimal(STDOUT_FILENO, n);
+    tell(STDOUT_FILENO, name, n);
 }
 
 pub fn end_line() {
     io::write_all(STDOUT_FILENO, b"\n");
 }
 
-pub fn put_refusal(outcome: Outcome) {
-    put(b"refused ", outcome.number as u64);
-    put(b" at ", outcome.place as u64);
+fn tell_number(to: i32, outcome: Outcome) {
+    tell(to, b"refused ", outcome.number as u64);
+    tell(to, b" at ", outcome.place as u64);
 }
 
-// The first line of what is refused: with the cart and the step, where the refusal stands inside a cart's part of the sheet.
-pub fn show_refusal(outcome: Outcome) {
-    put_refusal(outcome);
+pub fn put_refusal(outcome: Outcome) {
+    tell_number(STDOUT_FILENO, outcome);
+}
+
+// The line of what is refused: with the cart and the step, where the refusal stands inside a cart's part of the sheet.
+pub fn tell_refusal(to: i32, outcome: Outcome) {
+    tell_number(to, outcome);
     if outcome.cart != 0 {
-        put(b" cart ", outcome.cart as u64);
-        put(b" step ", outcome.step as u64);
+        tell(to, b" cart ", outcome.cart as u64);
+        tell(to, b" step ", outcome.step as u64);
     }
-    end_line();
+    io::write_all(to, b"\n");
+}
+
+pub fn show_refusal(outcome: Outcome) {
+    tell_refusal(STDOUT_FILENO, outcome);
 }
 
 fn show_counts(zones: usize, carts: usize) {

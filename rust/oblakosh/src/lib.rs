@@ -27,6 +27,9 @@ pub const CARTS: usize = 16;
 pub const STEPS: usize = 8;
 /// The words that judging writes.
 pub const WORDS: usize = 128;
+/// Bytes of the longest net as text.
+#[cfg(feature = "controller")]
+pub const NET: usize = 80_891;
 
 /// A crossing sheet. Carts, zones and steps count from 0, times are milliseconds, unused entries are 0.
 #[repr(C)]
@@ -434,4 +437,40 @@ pub fn why(sheet: &[u8], plan: &[u8], record: Record, cart: usize) -> Result<Cha
         out: told.out == 1,
     };
     answered(told.outcome, chain)
+}
+
+/// A plan's Petri net, written, and fired until no transition can fire.
+#[cfg(feature = "controller")]
+#[derive(Clone, Copy, Debug, PartialEq, Eq)]
+pub struct Net {
+    /// Bytes of the text, at the start of the room.
+    pub length: usize,
+    /// Whether some cart's out place then has no token: the verdict of [`judge`] is 22.
+    pub locked: bool,
+    /// Of each cart the position whose place then has its token, as in a [`Record`]; absent carts 0.
+    pub position: [u8; CARTS],
+}
+
+/// Writes the plan's Petri net as text at the start of the room, a place, transition or arc a line (docs/NET.md), and tells how it
+/// ends, a locked plan too; or 1 to 21, or 28 if the room is shorter than the text. [`NET`] bytes are always enough. Bytes beyond the
+/// text are untouched.
+#[cfg(feature = "controller")]
+pub fn net(sheet: &[u8], plan: &[u8], room: &mut [u8]) -> Result<Net, Refusal> {
+    // SAFETY: a slice is memory of its length that may be read; `room` may be written too, and overlaps nothing else.
+    let run = unsafe {
+        linked::oblakosh_net(
+            sheet.as_ptr(),
+            sheet.len(),
+            plan.as_ptr(),
+            plan.len(),
+            room.as_mut_ptr(),
+            room.len(),
+        )
+    };
+    let net = Net {
+        length: run.length,
+        locked: run.locked == 1,
+        position: run.position,
+    };
+    answered(run.outcome, net)
 }

@@ -76,6 +76,15 @@ pub struct Chain {
     pub out: u8,
 }
 
+#[cfg(feature = "controller")]
+#[repr(C)]
+pub struct NetRun {
+    pub outcome: Outcome,
+    pub length: usize,
+    pub locked: u8,
+    pub position: [u8; CARTS],
+}
+
 extern "C" {
     pub fn oblakosh_read_sheet(s: *const u8, s_length: usize) -> SheetRead;
     pub fn oblakosh_read_plan(
@@ -153,6 +162,14 @@ extern "C" {
         lent: Record,
         cart: usize,
     ) -> Chain;
+    pub fn oblakosh_net(
+        s: *const u8,
+        s_length: usize,
+        p: *const u8,
+        p_length: usize,
+        room: *mut u8,
+        room_length: usize,
+    ) -> NetRun;
 }
 
 /// The size of the field that such a function borrows.
@@ -192,3 +209,5 @@ layout!(Record 20: position 0 16, made 16 4);
 layout!(Asked 32: outcome 0 16, position 16 1, made 20 4, ahead 24 4);
 #[cfg(feature = "controller")]
 layout!(Chain 64: outcome 0 16, length 16 8, cart 24 16, zone 40 16, out 56 1);
+#[cfg(feature = "controller")]
+layout!(NetRun 48: outcome 0 16, length 16 8, locked 24 1, position 25 16);

@@ -240,10 +240,15 @@ impl Crossing {
         at[cart] > step.unwrap() + 1
     }
 
-    /// The next lower-numbered cart of the cart's lane, if both wait there.
+    /// The next lower-numbered cart of the cart's lane.
+    pub fn front(&self, cart: usize) -> Option<usize> {
+        (0..cart).rfind(|other| self.lanes[*other] == self.lanes[cart])
+    }
+
+    /// That cart, if both wait on the lane.
     fn held_by_lane(&self, at: &[usize], cart: usize) -> Option<usize> {
-        let front = (0..cart).rfind(|other| self.lanes[*other] == self.lanes[cart]);
-        front.filter(|front| at[cart] == 0 && at[*front] == 0)
+        self.front(cart)
+            .filter(|front| at[cart] == 0 && at[*front] == 0)
     }
 
     /// How many carts ahead have not left the zone.
@@ -330,6 +335,15 @@ impl Crossing {
             }
         }
         reached
+    }
+
+    /// Where the carts are when permitted moves are made until none is left.
+    pub fn end(&self) -> Vec<usize> {
+        let mut at = vec![0; self.carts()];
+        while let Some(cart) = (0..self.carts()).find(|cart| self.answer(&at, *cart).is_ok()) {
+            at[cart] += 1;
+        }
+        at
     }
 
     /// What a request is answered for any record: 22 where no run brings all carts out, 23 where no run reaches the record.

@@ -1,4 +1,6 @@
 // The judge: a plan's verdict with its entering times, finish and moves, or its ring.
+#![tactic(auto)]
+
 ghost use Rattle.std.specs.Prelude.{◌≡◌, ◌++◌, ◌≤◌, length, drop};
 ghost use Rattle.plan_reader.specs.inner.Scan.{orders_in};
 ghost use Rattle.judge.specs.Judging.{not_judged, judge, words_after};

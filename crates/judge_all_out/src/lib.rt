@@ -1,4 +1,6 @@
 // Whether all carts come out: the run alone, for requests to move, which ask for no times.
+#![tactic(auto)]
+
 ghost use Rattle.std.specs.Prelude.{◌≡◌, set};
 ghost use Rattle.times.specs.Running.{is_out};
 ghost use Rattle.crossing.specs.inner.Tables.{crossing_of, given_of};

@@ -1,4 +1,6 @@
 // When a cart enters a zone: as soon as it is ready and clear of every cart ahead.
+#![tactic(auto)]
+
 ghost use Rattle.std.specs.Prelude.{◌≡◌, ◌↔◌, true, List, ℕ, ◌≤◌, ◌<◌, max, get_or, set};
 ghost use Rattle.words.specs.Limits.{most_time};
 ghost use Rattle.words.specs.inner.Limits.{latest_leaving};

@@ -1,4 +1,6 @@
 // The finish of a run: the largest leaving time.
+#![tactic(auto)]
+
 ghost use Rattle.std.specs.Prelude.{◌≡◌, ◌<◌};
 ghost use Rattle.times.specs.Times.{largest};
 ghost use Rattle.sheet_table.specs.inner.Parts.{steps, passing};

@@ -1,4 +1,6 @@
 // Reads the first 2,048 bytes of standard input and no more, a sheet and then a plan, and prints the verdict.
+#![tactic(auto)]
+
 use libc::STDIN_FILENO;
 
 fn main() {

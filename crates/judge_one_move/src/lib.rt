@@ -1,4 +1,6 @@
 // One permitted move over tables, in parts: whether a zone may be entered, on into it, and out; what each makes of sets and times.
+#![tactic(auto)]
+
 ghost use Rattle.std.specs.Prelude.{◌≡◌, ◌↔◌, true, ◌<◌, ◌+◌, ◌*◌, length, get_or};
 ghost use Rattle.sets.specs.inner.Member.{Within};
 ghost use Rattle.moves.specs.System.{pos};

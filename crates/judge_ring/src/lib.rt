@@ -1,4 +1,6 @@
 // The ring of a locked plan: who points to whom, followed from the lowest cart that is stuck.
+#![tactic(auto)]
+
 ghost use Rattle.std.specs.Prelude.{◌≡◌, ◌↔◌, true, ◌≤◌, ◌<◌, get_or};
 ghost use Rattle.moves.specs.Rings.{follow, least_from};
 ghost use Rattle.judge_ring.specs.Ring.{no_ring, ring_by};

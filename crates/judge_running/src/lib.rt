@@ -1,4 +1,6 @@
 // Permitted moves made until none is left, with the entering times on the way: verdict and times, from one routine.
+#![tactic(auto)]
+
 ghost use Rattle.std.specs.Prelude.{◌≡◌, List, ℕ, ◌≤◌, ◌<◌, length, get_or, replicate};
 ghost use Rattle.moves.specs.System.{pos};
 ghost use Rattle.moves.specs.Moves.{Permitted};

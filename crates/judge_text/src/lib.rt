@@ -1,4 +1,6 @@
 // What the judge says of a sheet and a plan, printed as document 01 shows it.
+#![tactic(auto)]
+
 ghost use Rattle.std.specs.Prelude.{◌≡◌, ◌+◌, ◌-◌, ◌≤◌, ◌<◌, length};
 ghost use Rattle.words.specs.Lists.{pick};
 ghost use Rattle.judge_text.specs.inner.Input.{sheet_length};

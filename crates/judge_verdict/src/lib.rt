@@ -1,4 +1,6 @@
 // The judge's verdict of the orders present, over tables: locked or not, the times, and the order of moves; judging and planning ask it.
+#![tactic(auto)]
+
 ghost use Rattle.crossing.specs.inner.Tables.{crossing_of, given_of};
 ghost use Rattle.judge_verdict.specs.inner.Verdict.{Runnable, Runs};
 

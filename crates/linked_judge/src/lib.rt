@@ -1,4 +1,6 @@
 // What C and Rust call of the judge (include/oblakosh.h): the operations themselves, under names that C can call.
+#![tactic(auto)]
+
 ghost use Rattle.std.specs.Prelude.{◌≡◌, length};
 ghost use Rattle.sheet.specs.Reading.{read_sheet};
 ghost use Rattle.plan.specs.Reading.{read_plan};

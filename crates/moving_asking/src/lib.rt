@@ -1,4 +1,6 @@
 // A request to move a cart, by value: checks 1 to 26, and the cart's new position or how many are ahead of it.
+#![tactic(auto)]
+
 ghost use Rattle.std.specs.Prelude.{◌≡◌};
 ghost use Rattle.sheet_table.specs.inner.Parts.{zone};
 ghost use Rattle.crossing.specs.inner.Tables.{crossing_of};

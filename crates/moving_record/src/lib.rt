@@ -1,4 +1,6 @@
 // The crossing record, and whether a run of the plan reaches it.
+#![tactic(auto)]
+
 ghost use Rattle.std.specs.Prelude.{◌≡◌, ◌↔◌, true, ◌-◌, ◌≤◌};
 ghost use Rattle.routes.specs.Moves.{moves_of};
 ghost use Rattle.sheet_table.specs.inner.Parts.{lane, steps, zone};

@@ -1,4 +1,6 @@
 // Why a cart does not move: the chain of carts from it down to one that may move now, each held by the next.
+#![tactic(auto)]
+
 ghost use Rattle.std.specs.Prelude.{◌≡◌, ◌<◌};
 ghost use Rattle.sets.specs.Counting.{bit};
 ghost use Rattle.sheet_table.specs.inner.Parts.{steps};

@@ -1,4 +1,6 @@
 // The Petri net beside the judge: a sheet and a plan read, the net's transitions fired until none can fire, and the net written as text into lent room.
+#![tactic(auto)]
+
 ghost use Rattle.std.specs.Prelude.{◌≡◌, [], ◌∷◌, length};
 ghost use Rattle.crossing.specs.inner.Sound.{Sound};
 ghost use Rattle.crossing.specs.inner.Tables.{crossing_of, given_of};

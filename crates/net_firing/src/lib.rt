@@ -1,5 +1,7 @@
 // The net of a sheet and a plan, fired over tables of tokens until no transition can fire.
 // A cart's transition from position p takes the tokens before its move from there, and gives those after it: docs/NET.md.
+#![tactic(auto)]
+
 ghost use Rattle.std.specs.Prelude.{◌≡◌, ◌↔◌, true, ◌≤◌, ◌<◌, length};
 ghost use Rattle.sets.specs.inner.Member.{has};
 ghost use Rattle.moves.specs.Moves.{moved};

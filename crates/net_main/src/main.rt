@@ -1,5 +1,7 @@
 // Reads the first 2,048 bytes of standard input and no more, a sheet and then a plan, and writes their Petri net to standard output (docs/NET.md):
 // as text, or with the word `dot` in Graphviz' language. What is refused writes nothing there, and its line to standard error; so do other words.
+#![tactic(auto)]
+
 ghost use Rattle.std.specs.Prelude.{◌+◌, ◌≤◌, length};
 
 use judge_text::sheet_length;

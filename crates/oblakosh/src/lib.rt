@@ -1,5 +1,7 @@
 // What C and Rust call (include/oblakosh.h): the judge's three functions once more, and the other operations.
 // The routine that moves carts is exported by its own crate, `moving`: no function here could hand a `&mut` record on to it.
+#![tactic(auto)]
+
 ghost use Rattle.std.specs.Prelude.{◌≡◌, length};
 ghost use Rattle.sheet.specs.Reading.{read_sheet};
 ghost use Rattle.plan.specs.Reading.{read_plan};

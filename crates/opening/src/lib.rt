@@ -1,4 +1,6 @@
 // What a sheet and a plan begin with, read: version, length, zone count.
+#![tactic(auto)]
+
 ghost use Rattle.std.specs.Prelude.{◌≡◌, ◌≤◌};
 ghost use Rattle.opening.specs.inner.Opening.{opening_at};
 

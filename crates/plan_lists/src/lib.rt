@@ -1,4 +1,6 @@
 // The plan's lists read: nested loops, left at the first byte that breaks a rule; membership by sets.
+#![tactic(auto)]
+
 ghost use Rattle.std.specs.Prelude.{◌≡◌, ◌≤◌};
 ghost use Rattle.words.specs.inner.Checks.{Left};
 ghost use Rattle.sheet_table.specs.inner.Parts.{zone, lane};

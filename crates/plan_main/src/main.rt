@@ -2,6 +2,8 @@
 // With no word it plans by the removal rule; the word `first` asks for first come, first through, and `better` for the better of the two.
 // A sheet that is refused writes no plan; the line of its refusal then goes to standard error, and so does a line on words of another kind.
 // A sheet of more than 65,536 bytes is cut there: no length field fits it, whole or cut.
+#![tactic(auto)]
+
 use libc::{STDERR_FILENO, STDIN_FILENO, STDOUT_FILENO};
 use planner::Planned;
 use sheet_text::tell_refusal;

@@ -1,4 +1,6 @@
 // A plan for a sheet read, in one pass.
+#![tactic(auto)]
+
 ghost use Rattle.std.specs.Prelude.{◌≡◌, ◌<◌, replicate};
 ghost use Rattle.sheet_table.specs.inner.Parts.{steps, zone, lane};
 ghost use Rattle.sheet_filling.specs.inner.Filled.{sheet_in};

@@ -1,4 +1,6 @@
 // What the plan operations say of a plan for a sheet, printed on standard output.
+#![tactic(auto)]
+
 ghost use Rattle.std.specs.Prelude.{◌≤◌};
 
 use libc::STDOUT_FILENO;

@@ -1,4 +1,6 @@
 // One zone's passing list, as the very part of the plan lent.
+#![tactic(auto)]
+
 ghost use Rattle.std.specs.Prelude.{◌≡◌};
 ghost use Rattle.plan_zone_list.specs.Finding.{not_found, FoundIs, PartIs};
 

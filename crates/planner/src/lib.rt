@@ -1,4 +1,6 @@
 // A sheet planned by one of three rules, and written into lent room: by removal, first come first through, and the better of the two.
+#![tactic(auto)]
+
 ghost use Rattle.std.specs.Prelude.{ℕ, ◌≡◌, length, ltb};
 ghost use Rattle.words.specs.Lists.{pick};
 ghost use Rattle.sheet.specs.Valid.{Valid};

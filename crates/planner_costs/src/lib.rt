@@ -1,4 +1,6 @@
 // The candidates' costs over tables, and the order of largest cost.
+#![tactic(auto)]
+
 ghost use Rattle.std.specs.Prelude.{◌≡◌, ◌+◌, ◌≤◌, ◌<◌};
 ghost use Rattle.words.specs.inner.Limits.{latest_clear, most_taken_off};
 ghost use Rattle.sheet_table.specs.inner.Parts.{cross, zone, passing};

@@ -1,4 +1,6 @@
 // First come, first through, over a sheet's table: for each step the carts that go before it.
+#![tactic(auto)]
+
 ghost use Rattle.std.specs.Prelude.{ℕ, ◌+◌, ◌<◌, ◌≡◌};
 ghost use Rattle.sheet.specs.Valid.{Valid};
 ghost use Rattle.plan_lists.specs.inner.Sets.{Routes, who_visits};

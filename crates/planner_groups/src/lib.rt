@@ -1,4 +1,6 @@
 // A group of ranks opened in the tables of the orders present, and the tables at the start.
+#![tactic(auto)]
+
 ghost use Rattle.std.specs.Prelude.{◌≡◌, get_or, leb, ltb, ℕ, ◌<◌};
 ghost use Rattle.sets.specs.Counting.{set_below};
 ghost use Rattle.sets.specs.inner.Member.{has};

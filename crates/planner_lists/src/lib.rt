@@ -1,4 +1,6 @@
 // The passing lists read off a table of orders, once every pair is decided.
+#![tactic(auto)]
+
 ghost use Rattle.std.specs.Prelude.{◌≡◌, get_or};
 ghost use Rattle.std.specs.Int.Count.{ones};
 ghost use Rattle.words.specs.Lists.{entries};

@@ -1,4 +1,6 @@
 // The tables of the orders present while carts are planned: for each step the carts ahead, the carts behind, and those with which it is an undecided pair.
+#![tactic(auto)]
+
 ghost use Rattle.std.specs.Prelude.{◌<◌};
 ghost use Rattle.planner_orders.specs.inner.Deciding.{Decides, TurnsRound};
 

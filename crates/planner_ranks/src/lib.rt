@@ -1,4 +1,6 @@
 // The ranks of carts by arrival, then number.
+#![tactic(auto)]
+
 ghost use Rattle.std.specs.Prelude.{◌≡◌, ◌≤◌, ◌<◌};
 ghost use Rattle.sheet_table.specs.inner.Parts.{arrival};
 ghost use Rattle.planner_ranks.specs.inner.Ranks.{comes_before_in, rank_in, Ranks};

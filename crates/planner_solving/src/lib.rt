@@ -1,4 +1,6 @@
 // Groups of ranks solved over tables: a trial, or each half.
+#![tactic(auto)]
+
 ghost use Rattle.std.specs.Prelude.{ℕ, ◌≡◌};
 ghost use Rattle.sheet.specs.Valid.{Valid};
 ghost use Rattle.plan_lists.specs.inner.Sets.{who_visits};

@@ -1,4 +1,6 @@
 // Spare times over tables, worked back through a run.
+#![tactic(auto)]
+
 ghost use Rattle.std.specs.Prelude.{◌≡◌, ◌+◌, ◌*◌, ◌≤◌, ◌<◌, get_or, set};
 ghost use Rattle.words.specs.Lists.{entries};
 ghost use Rattle.sets.specs.inner.Member.{has};

@@ -1,4 +1,6 @@
 // The trial of a group of ranks: orders of its pairs are decided one by one, each kept only where all carts still come out.
+#![tactic(auto)]
+
 ghost use Rattle.std.specs.Prelude.{◌≡◌};
 ghost use Rattle.planner_spare.specs.inner.Rears.{rears_of};
 ghost use Rattle.planner_trials.specs.inner.Trying.{Triable, Tries};

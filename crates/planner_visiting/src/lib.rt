@@ -1,4 +1,6 @@
 // Who visits each zone, and at which step, as tables.
+#![tactic(auto)]
+
 ghost use Rattle.sheet_table.specs.inner.Parts.{steps, zone};
 ghost use Rattle.planner_visiting.specs.inner.Visiting.{RoutesOnce, Places};
 

@@ -1,4 +1,6 @@
 // One cart's lane, arrival and step count, and one step, read.
+#![tactic(auto)]
+
 ghost use Rattle.std.specs.Prelude.{◌≡◌, ◌≤◌, ◌<◌, leb};
 ghost use Rattle.sets.specs.inner.Member.{has};
 ghost use Rattle.sheet.specs.Checks.{most_travel};

@@ -1,4 +1,6 @@
 // All carts read: nested loops, left at the first byte that breaks a rule.
+#![tactic(auto)]
+
 ghost use Rattle.std.specs.Prelude.{◌≡◌, ℕ, ◌≤◌, ◌<◌, replicate};
 ghost use Rattle.words.specs.inner.Checks.{Left};
 ghost use Rattle.sheet.specs.Reading.{sheet_refused, sheet_done};

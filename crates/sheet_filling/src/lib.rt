@@ -1,4 +1,6 @@
 // A sheet's table filled, and the sheet that it stands for as a struct.
+#![tactic(auto)]
+
 ghost use Rattle.std.specs.Prelude.{ℕ, ◌+◌, ◌≤◌, ◌<◌, ◌≡◌};
 ghost use Rattle.words.specs.Limits.{most_time, latest_arrival};
 ghost use Rattle.sheet.specs.Valid.{Valid};

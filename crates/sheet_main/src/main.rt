@@ -1,5 +1,7 @@
 // Reads a crossing sheet from standard input and prints what the reader says of it.
 // A sheet of more than 65,536 bytes is cut there: no length field fits it, whole or cut.
+#![tactic(auto)]
+
 use libc::STDIN_FILENO;
 
 fn main() {

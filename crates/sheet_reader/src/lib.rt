@@ -1,4 +1,6 @@
 // The crossing sheet read into a table, in one pass; the table as a struct, at the door.
+#![tactic(auto)]
+
 ghost use Rattle.std.specs.Prelude.{◌≡◌, ◌≤◌, replicate};
 ghost use Rattle.words.specs.inner.Checks.{Left};
 ghost use Rattle.sheet.specs.Reading.{sheet_refused, sheet_done, read_sheet};

@@ -1,4 +1,6 @@
 // A sheet's facts in one table, by parts in document 01's order: where each stands, and how it is read.
+#![tactic(auto)]
+
 ghost use Rattle.std.specs.Prelude.{◌≡◌, ◌+◌, ◌≤◌, ◌<◌, get_or};
 ghost use Rattle.sheet_table.specs.inner.Parts.{part, follow, cross, lane, arrival, steps, zone, passing, travel};
 

@@ -1,4 +1,6 @@
 // What the reader says of a crossing sheet, printed on standard output: a line for each zone, cart and step.
+#![tactic(auto)]
+
 ghost use Rattle.std.specs.Prelude.{◌<◌};
 
 use libc::STDOUT_FILENO;

@@ -1,6 +1,8 @@
 // Shows each line of the text files that the arguments name, under the file's number and the line's.
 // A line holds a sheet in hexadecimal, or a sheet, a bar and a plan for it: two digits a byte, spaces are free, and `-` stands for no bytes.
 // An empty line holds nothing, and `#` starts a comment. Other characters are passed over, as spaces are.
+#![tactic(auto)]
+
 ghost use Rattle.std.specs.Prelude.{◌<◌};
 
 use libc::STDOUT_FILENO;

@@ -1,4 +1,6 @@
 // Reads the first 2,048 bytes of standard input and no more, a sheet, a plan and 21 bytes of record and cart, and prints why the cart does not move.
+#![tactic(auto)]
+
 use fields::{Field, four_bytes, one_byte, outside};
 use judge_text::{sheet_length, show_wait};
 use libc::{STDERR_FILENO, STDIN_FILENO, STDOUT_FILENO};

@@ -19,18 +19,18 @@ sub-x : tie.Need-overflow-sub-x
 sub-x c = search rules
 
 add-x : tie.Need-overflow-add-x
-add-x c = omega (arith, c.before.before.requires.0.steps-most _ c.before.before.requires.1, c.before.steps.ensures, c.if1.false)
+add-x c = omega (arith, c.before.before.requires.0.steps_most _ c.before.before.requires.1, c.before.steps.ensures, c.if1.false)
 
 mul-result : tie.Need-overflow-mul-result
-mul-result c = omega (arith, c.before.before.requires.0.steps-most _ c.before.before.requires.1, c.before.steps.ensures, c.if1.false)
+mul-result c = omega (arith, c.before.before.requires.0.steps_most _ c.before.before.requires.1, c.before.steps.ensures, c.if1.false)
 
 element-copy-out-result : tie.Need-element-copy-out-result
-element-copy-out-result c = omega (arith, c.before.before.requires.0.steps-most _ c.before.before.requires.1, c.before.steps.ensures, c.if1.false)
+element-copy-out-result c = omega (arith, c.before.before.requires.0.steps_most _ c.before.before.requires.1, c.before.steps.ensures, c.if1.false)
 
 passing-requires : tie.Need-passing-requires
 passing-requires c κs = omega (
   arith,
-  c.before.before.before.requires.0.steps-most _ c.before.before.before.requires.1,
+  c.before.before.before.requires.0.steps_most _ c.before.before.before.requires.1,
   c.before.before.steps.ensures,
   c.before.if1.false,
 )
@@ -39,9 +39,9 @@ add-result : tie.Need-overflow-add-result
 add-result c = omega (
   arith,
   c.passing.ensures,
-  c.before.before.before.before.requires.0.passing-most
+  c.before.before.before.before.requires.0.passing_most
       (8 * c.before.before.before.before.args.c + (c.before.before.before.steps.result - 1)),
-  c.before.before.before.before.requires.0.enter-most (8 * c.before.before.before.before.args.c + (c.before.before.before.steps.result - 1)),
+  c.before.before.before.before.requires.0.enter_most (8 * c.before.before.before.before.args.c + (c.before.before.before.steps.result - 1)),
 )
 
 returns-2 : tie.Need-returns-2

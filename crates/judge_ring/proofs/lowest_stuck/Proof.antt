@@ -26,7 +26,7 @@ returns c = record {
   most = c.before.before.before.loop.invariant.0;
   lower_out = c.before.before.before.loop.invariant.1;
   not_out = λ _.
-      c.before.not-out.ensures.0 c.if1.true;
+      c.before.not_out.ensures.0 c.if1.true;
 }
 
 add-c : tie.Need-overflow-add-c invariant-loop decreases-loop
@@ -40,7 +40,7 @@ loop-again c = (
   omega (arith, c.before.before.loop-test.true),
   passed_next (parts.steps c.before.before.before.before.args.sheet.now)
       c.before.before.before.before.args.at.now _ c.before.before.before.loop.invariant.1
-      (λ h. false≢true (sym c.if1.false ∙ c.before.not-out.ensures.1 h)),
+      (λ h. false≢true (sym c.if1.false ∙ c.before.not_out.ensures.1 h)),
 )
 
 returns-2 : tie.Need-returns-2 invariant-loop decreases-loop

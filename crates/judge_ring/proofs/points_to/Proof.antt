@@ -8,7 +8,7 @@ use Rattle.judge_ring.proofs.points_to.Statement.{statement}
 use Rattle.judge_ring.proofs.points_to.Tie as tie
 
 lane-holds-requires : tie.Need-lane-holds-requires
-lane-holds-requires c κs = (c.requires.1, front_16 _ _ c.requires.0.lanes-are _ c.requires.1)
+lane-holds-requires c κs = (c.requires.1, front_16 _ _ c.requires.0.lanes_are _ c.requires.1)
 
 front-requires : tie.Need-front-requires
 front-requires c κs = search rules
@@ -17,35 +17,35 @@ sub-result : tie.Need-overflow-sub-result
 sub-result c = omega (
   arith,
   c.front.ensures,
-  held_front _ _ c.before.before.before.requires.0.lanes-are _ c.before.before.before.requires.1 [] c.before.before.before.args.at.now
-      (sym (c.before.before.lane-holds.ensures _ [] c.before.before.before.requires.0.lanes-are) ∙ c.before.if1.true),
+  held_front _ _ c.before.before.before.requires.0.lanes_are _ c.before.before.before.requires.1 [] c.before.before.before.args.at.now
+      (sym (c.before.before.lane-holds.ensures _ [] c.before.before.before.requires.0.lanes_are) ∙ c.before.if1.true),
 )
 
 returns : tie.Need-returns
 returns c = (
   rw (
-    sym (c.before.before.lane-holds.ensures _ [] c.before.before.before.requires.0.lanes-are) ∙ c.before.if1.true,
-    c.front.ensures ∙ front_told _ _ c.before.before.before.requires.0.lanes-are _ c.before.before.before.requires.1,
+    sym (c.before.before.lane-holds.ensures _ [] c.before.before.before.requires.0.lanes_are) ∙ c.before.if1.true,
+    c.front.ensures ∙ front_told _ _ c.before.before.before.requires.0.lanes_are _ c.before.before.before.requires.1,
   ),
-  omega (arith, c.front.ensures, front_16 _ _ c.before.before.before.requires.0.lanes-are _ c.before.before.before.requires.1),
+  omega (arith, c.front.ensures, front_16 _ _ c.before.before.before.requires.0.lanes_are _ c.before.before.before.requires.1),
 )
 
 wanted-zone-requires : tie.Need-wanted-zone-requires
 wanted-zone-requires c κs = (
   c.before.before.requires.1,
-  c.before.before.requires.0.wanting.steps-most _ c.before.before.requires.1,
-  c.before.before.requires.0.wanting.zone-below _ c.before.before.requires.1,
+  c.before.before.requires.0.wanting.steps_most _ c.before.before.requires.1,
+  c.before.before.requires.0.wanting.zone_below _ c.before.before.requires.1,
 )
 
 first-not-left-requires : tie.Need-first-not-left-requires
 first-not-left-requires c κs =
-    let below = c.before.before.before.requires.0.wanting.zone-below _ c.before.before.before.requires.1 in
+    let below = c.before.before.before.requires.0.wanting.zone_below _ c.before.before.before.requires.1 in
     rw c.wanted-zone.ensures (below, c.before.before.before.requires.0.listable _ below)
 
 returns-2 : tie.Need-returns-2
 returns-2 c = (
   rw (
-    sym (c.before.before.before.lane-holds.ensures _ [] c.before.before.before.before.requires.0.lanes-are) ∙ c.before.before.if1.false,
+    sym (c.before.before.before.lane-holds.ensures _ [] c.before.before.before.before.requires.0.lanes_are) ∙ c.before.before.if1.false,
     ←
         c.before.wanted-zone.ensures,
   ) c.first-not-left.ensures.0,

@@ -22,13 +22,13 @@ loop-holds c = (omega arith, table_none 16 _)
 wanted-zone-requires : tie.Need-wanted-zone-requires invariant-loop decreases-loop
 wanted-zone-requires c κs = (
   c.loop-test.true,
-  c.before.before.requires.steps-most _ c.loop-test.true,
-  c.before.before.requires.zone-below _
+  c.before.before.requires.steps_most _ c.loop-test.true,
+  c.before.before.requires.zone_below _
       c.loop-test.true,
 )
 
 cast-wanted : tie.Need-overflow-cast-wanted invariant-loop decreases-loop
-cast-wanted c = omega (arith, c.wanted-zone.ensures, c.before.before.before.requires.zone-below _ c.before.loop-test.true)
+cast-wanted c = omega (arith, c.wanted-zone.ensures, c.before.before.before.requires.zone_below _ c.before.loop-test.true)
 
 array-write-wanted : tie.Need-array-write-wanted invariant-loop decreases-loop
 array-write-wanted c = search rules

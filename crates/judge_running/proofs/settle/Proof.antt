@@ -19,7 +19,7 @@ decreases-loop sheet ahead enter₀ order₀ on at₀ left₀ leave₀ made₀ g
 
 present-lanes-requires : tie.Need-present-lanes-requires invariant-loop decreases-loop
 unfolding given_by
-present-lanes-requires c κs = c.requires.0.ranged.lane-most
+present-lanes-requires c κs = c.requires.0.ranged.lane_most
 
 foremost-requires : tie.Need-foremost-requires invariant-loop decreases-loop
 foremost-requires c κs = search rules
@@ -28,7 +28,7 @@ loop-holds : tie.Need-loop-init invariant-loop decreases-loop
 unfolding given_by
 loop-holds c = settling_start _ _ 16 _ _ _ _ _ (carts_16 _ _ _ _) c.before.before.before.requires.2
     (rw c.before.before.before.requires.1 (running_start _ _ 16 24 384 128 c.before.before.before.requires.0 (carts_16 _ _ _ _) refl refl refl))
-    (asked_start _ _ c.before.before.before.requires.0.ranged.lane-most _ (rw c.before.before.present-lanes.ensures at c.foremost.ensures))
+    (asked_start _ _ c.before.before.before.requires.0.ranged.lane_most _ (rw c.before.before.present-lanes.ensures at c.foremost.ensures))
 
 sweep-requires : tie.Need-sweep-requires invariant-loop decreases-loop
 sweep-requires c κs = (

@@ -16,21 +16,21 @@ abbrev decreases-loop : tie.decreases-loop
 decreases-loop sheet visitors m ranked ahead₀ c₀ ahead c = m - c
 
 ranks-requires : tie.Need-ranks-requires invariant-loop decreases-loop
-ranks-requires c κs = c.requires.0.1.carts-most
+ranks-requires c κs = c.requires.0.1.carts_most
 
 loop-holds : tie.Need-loop-init invariant-loop decreases-loop
 loop-holds c = (omega arith, put_none _ _ _ (valid_routes _ c.before.requires.0.1).few)
 
 put-cart-requires : tie.Need-put-cart-requires invariant-loop decreases-loop
 put-cart-requires c κs = (
-  omega (arith, c.before.before.before.before.before.requires.0.1.carts-most),
+  omega (arith, c.before.before.before.before.before.requires.0.1.carts_most),
   valid_routes _
       c.before.before.before.before.before.requires.0.1,
   c.before.before.before.loop.invariant.1,
 )
 
 add-c : tie.Need-overflow-add-c invariant-loop decreases-loop
-add-c c = omega (arith, c.before.before.before.before.before.before.requires.0.1.carts-most)
+add-c c = omega (arith, c.before.before.before.before.before.before.requires.0.1.carts_most)
 
 loop-less : tie.Need-loop-smaller invariant-loop decreases-loop
 loop-less c = search rules

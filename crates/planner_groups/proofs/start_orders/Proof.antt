@@ -81,7 +81,7 @@ loop-again c =
 returns : tie.Need-returns invariant-loop decreases-loop
 returns c =
     let ends : c.before.loop.x ≡ 128 = omega arith in
-    starts _ _ _ _ _ c.before.before.before.requires.routes c.before.before.before.requires.visitors-are (rw ends at c.before.loop.invariant.1)
+    starts _ _ _ _ _ c.before.before.before.requires.routes c.before.before.before.requires.visitors_are (rw ends at c.before.loop.invariant.1)
 
 pub start-orders-spec : {M : Type 1} → statement M
 start-orders-spec =

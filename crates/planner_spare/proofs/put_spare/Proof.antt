@@ -18,13 +18,13 @@ spare-alone-requires c κs = (
   c.before.before.requires.0.leavable,
   c.before.before.requires.1,
   c.before.before.requires.2,
-  c.before.before.requires.0.last-left _ c.before.before.requires.1,
+  c.before.before.requires.0.last_left _ c.before.before.requires.1,
 )
 
 least-in-line-requires : tie.Need-least-in-line-requires
 least-in-line-requires c κs = (
   c.before.before.before.before.requires.1,
-  rw c.before.before.before.before.requires.0.rears-are (rears_most c.before.before.before.before.args.sheet.now),
+  rw c.before.before.before.before.requires.0.rears_are (rears_most c.before.before.before.before.args.sheet.now),
 )
 
 mul-least-behind : tie.Need-overflow-mul-least-behind

@@ -9,42 +9,42 @@ use Rattle.planner_spare.proofs.spare_alone.Statement.{statement}
 use Rattle.planner_spare.proofs.spare_alone.Tie as tie
 
 mul-x : tie.Need-overflow-mul-x
-mul-x c = omega (arith, c.requires.0.steps-most _ c.requires.1)
+mul-x c = omega (arith, c.requires.0.steps_most _ c.requires.1)
 
 add-x : tie.Need-overflow-add-x
-add-x c = omega (arith, c.requires.0.steps-most _ c.requires.1)
+add-x c = omega (arith, c.requires.0.steps_most _ c.requires.1)
 
 add-if1 : tie.Need-overflow-add-if1
-add-if1 c = omega (arith, c.requires.0.steps-most _ c.requires.1)
+add-if1 c = omega (arith, c.requires.0.steps_most _ c.requires.1)
 
 steps-requires : tie.Need-steps-requires
 steps-requires c κs = search rules
 
 add-result : tie.Need-overflow-add-result
-add-result c = omega (arith, c.before.before.requires.0.steps-most _ c.before.before.requires.1)
+add-result c = omega (arith, c.before.before.requires.0.steps_most _ c.before.before.requires.1)
 
 mul-result : tie.Need-overflow-mul-result
-mul-result c = omega (arith, c.before.before.requires.0.steps-most _ c.before.before.requires.1)
+mul-result c = omega (arith, c.before.before.requires.0.steps_most _ c.before.before.requires.1)
 
 element-copy-out-result : tie.Need-element-copy-out-result
-element-copy-out-result c = omega (arith, c.before.before.requires.0.steps-most _ c.before.before.requires.1)
+element-copy-out-result c = omega (arith, c.before.before.requires.0.steps_most _ c.before.before.requires.1)
 
 mul-result-2 : tie.Need-overflow-mul-result-2
-mul-result-2 c = omega (arith, c.before.before.requires.0.steps-most _ c.before.before.requires.1)
+mul-result-2 c = omega (arith, c.before.before.requires.0.steps_most _ c.before.before.requires.1)
 
 element-copy-out-result-2 : tie.Need-element-copy-out-result-2
-element-copy-out-result-2 c = omega (arith, c.before.before.requires.0.steps-most _ c.before.before.requires.1)
+element-copy-out-result-2 c = omega (arith, c.before.before.requires.0.steps_most _ c.before.before.requires.1)
 
 passing-requires : tie.Need-passing-requires
-passing-requires c κs = omega (arith, c.before.before.before.requires.0.steps-most _ c.before.before.before.requires.1)
+passing-requires c κs = omega (arith, c.before.before.before.requires.0.steps_most _ c.before.before.before.requires.1)
 
 add-result-2 : tie.Need-overflow-add-result-2
 add-result-2 c = omega (
   arith,
-  c.before.before.before.before.requires.0.passing-most
+  c.before.before.before.before.requires.0.passing_most
       (8 * c.before.before.before.before.args.c + c.before.before.before.before.args.j),
   c.passing.ensures,
-  c.before.before.before.before.requires.0.enter-most (8 * c.before.before.before.before.args.c + c.before.before.before.before.args.j),
+  c.before.before.before.before.requires.0.enter_most (8 * c.before.before.before.before.args.c + c.before.before.before.before.args.j),
 )
 
 sub-result : tie.Need-overflow-sub-result

@@ -155,15 +155,19 @@ fn opened<R: Files>(rt: &R, path: &[u8]) -> io::Result<R::File> {
     fs::open(rt, name)
 }
 
+// The text of an error, less the system's number of it.
+fn reason(text: &str) -> &str {
+    match text.split_once(" (os error ") {
+        Some((reason, _)) => reason,
+        None => text,
+    }
+}
+
 // Writes a line to standard error: what failed, as the caller names it, a colon and the system's text.
 fn fail(errors: &impl Print, alloc: Global, what: &[u8], error: io::Error) -> io::Result<()> {
     let text = format!(in alloc; "{error}")?;
-    let reason = match text.split_once(" (os error ") {
-        Some((reason, _)) => reason,
-        None => text.as_str(),
-    };
     errors.write_all(what)?;
-    println!(errors; ": {reason}")
+    println!(errors; ": {}", reason(&text))
 }
 
 // Shows the file that argument i names.

@@ -13,11 +13,29 @@ import subprocess
 import sys
 import tempfile
 
+OURS = dict(l.split() for l in open("/tmp/respelled.tsv")) if os.path.exists("/tmp/respelled.tsv") else {}
 SIMPLE = re.compile(r"^(search rules|omega arith|grind arith)$")
 
 
+def clause_names():
+    """The names of each function's clauses, where it has several of a kind."""
+    out = {}
+    for p in glob.glob("crates/*/src/**/*.rt", recursive=True):
+        with open(p) as f:
+            text = f.read()
+        for m in re.finditer(r"\bfn (\w+)[^{]*?\)(?: -> [^\n{]*)?\n((?: +(?:requires|ensures)[^\n]*\n(?: {8,}[^\n]*\n)*)+)", text):
+            for kind in ("ensures", "requires"):
+                names = re.findall(rf"(?m)^ +{kind}\*? (\w+) \{{", m[2])
+                if len(names) > 1:
+                    out[p.split("/")[1], m[1], kind] = names
+    return out
+
+
+NAMES = clause_names()
+
+
 def norm(s):
-    return s.replace("-", "_")
+    return s.replace("-", "_").lower()
 
 
 def generated(crate):
@@ -63,10 +81,12 @@ def declarations(text):
 class Function:
     def __init__(self, record, name):
         self.r, self.name, self.left = record, name, []
-        self.place = {}
+        self.place, self.callee = {}, {}
         for old, parent, field, callee, more in record["places"]:
             self.place.setdefault(old, (parent, field))
+            self.callee.setdefault(old, callee)
         self.typed = {old[0]: t for old, t in zip(record["places"], record["typed"])}
+        self.arms = {old[0]: a for old, a in zip(record["places"], record["arms"]) if a}
         self.needs = {}
         for (old, new), (at, _) in zip(record["needs"], record["asked_at"]):
             self.needs.setdefault(norm(old), (new, at))
@@ -81,6 +101,9 @@ class Function:
     def path(self, m, at, label):
         befores, rest = m[1].count("before"), m[2]
         parts = rest.strip(".").split(".") if rest else []
+        parts = parts[:1] + [OURS.get(x, x) for x in parts[1:]]
+        if parts:
+            parts[0] = re.sub("_lem$", "", parts[0])
         if not parts:
             if befores:
                 self.left.append(f"{label}: bare {m[0]}")
@@ -89,9 +112,20 @@ class Function:
         if f in ("args", "requires", "ranges", "well_formed", "lifetimes"):
             return "c." + ".".join(parts)
         places = self.chain(at)
+        # what a match's arm binds has its own step today
+        for p in places:
+            arm = self.arms.get(p)
+            for field, step, was in sorted(arm[2], key=lambda x: -len(x[2])) if arm else ():
+                if norm(step) == norm(f) and was and parts[1 : 1 + len(was)] == was:
+                    return "c." + ".".join([arm[0], field] + parts[1 + len(was) :])
         for p in places:
             field = self.place[p][1]
             if norm(field[0]) == norm(f):
+                callee = self.callee.get(p)
+                if callee and len(parts) > 2 and parts[1] in ("ensures", "requires") and parts[2].isdigit():
+                    of = NAMES.get((callee.split("::")[0], callee.split("::")[-1], parts[1]))
+                    if of and len(of) == 2:
+                        parts = parts[:2] + [of[int(parts[2])]] + parts[3:]
                 if len(parts) > 1 and parts[1] == "given":
                     t = self.typed.get(p) or []
                     of = [x for x, k in t if norm(k) == norm(f)]
@@ -107,6 +141,11 @@ class Function:
         return m[0]
 
     def body(self, text, at, label):
+        text = self.paths(text, at, label).replace(".type-inv", ".type_inv")
+        # the test of a `!x` says already what x is
+        return re.sub(r"not-(?:true|false)\s+_\s+(c\.(?:if|loop)-not-[^\s(),;]+)", r"\1", text)
+
+    def paths(self, text, at, label):
         return re.sub(r"(?<![\w.'])c((?:\.before)*)((?:\.[^\s(){}.;,@\"]+)*)", lambda m: self.path(m, at, label), text)
 
 
@@ -153,7 +192,9 @@ def convert(crate, where, names):
             if len(params) != len(paths):
                 fn.left.append(f"{m[1]}: {len(params)} parameters, {len(paths)} names: {params} / {paths}")
             sub = dict(zip(params, paths))
-            body = re.sub(r"[^\s(){}.;,@\"]+", lambda w: sub.get(w[0], w[0]) if not (w.start() and mm[3][w.start() - 1] == ".") else w[0], mm[3])
+            # neither a field behind a dot, nor one that a record gives, nor the variable of a λ is meant
+            at_name = lambda w: (w.start() and mm[3][w.start() - 1] == ".") or re.match(r"\s+= ", mm[3][w.end() :]) or re.match(r"\.\s", mm[3][w.end() :])
+            body = re.sub(r"[^\s(){}.;,@\"]+", lambda w: w[0] if at_name(w) else sub.get(w[0], w[0]), mm[3])
             name = f"{m[2]}-{new}"
             inv.append("\n".join(b[:k] + [f"abbrev pub {name} : goal.{name}"] + ([mm[1].rstrip("\n")] if mm[1] else []) + [f"{name} l = {body}"]))
             continue

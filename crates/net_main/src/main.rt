@@ -12,7 +12,7 @@ use std::io;
 use std::io::Read;
 
 // What the program's words ask for.
-#[derive(Drop)]
+#[derive(Clone, Copy)]
 enum Form {
     Text,
     Dot,

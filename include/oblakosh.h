@@ -1,6 +1,6 @@
 /* Oblakosh: who goes through the crossing first. The public operations, for C and for whatever calls C, on x86-64 Linux.
 
-   Libraries, made by `rt staticlib`, each with the functions of one crate:
+   Libraries, made by `./build linked_judge_c oblakosh_c moving_c`, each with the functions of one crate:
      liblinked_judge.a  oblakosh_read_sheet, oblakosh_read_plan, oblakosh_judge
      liboblakosh.a      these and every other function below, but oblakosh_move_cart
      libmoving.a        oblakosh_move_cart

@@ -17,7 +17,7 @@ SIMPLE = re.compile(r"^(search rules|omega arith|grind arith)$")
 
 
 def norm(s):
-    return s.replace("-", "_")
+    return s.replace("-", "_").lower()
 
 
 def generated(crate):
@@ -67,6 +67,7 @@ class Function:
         for old, parent, field, callee, more in record["places"]:
             self.place.setdefault(old, (parent, field))
         self.typed = {old[0]: t for old, t in zip(record["places"], record["typed"])}
+        self.arms = {old[0]: a for old, a in zip(record["places"], record["arms"]) if a}
         self.needs = {}
         for (old, new), (at, _) in zip(record["needs"], record["asked_at"]):
             self.needs.setdefault(norm(old), (new, at))
@@ -89,6 +90,12 @@ class Function:
         if f in ("args", "requires", "ranges", "well_formed", "lifetimes"):
             return "c." + ".".join(parts)
         places = self.chain(at)
+        # what a match's arm binds has its own step today
+        for p in places:
+            arm = self.arms.get(p)
+            for field, step, was in sorted(arm[2], key=lambda x: -len(x[2])) if arm else ():
+                if norm(step) == norm(f) and was and parts[1 : 1 + len(was)] == was:
+                    return "c." + ".".join([arm[0], field] + parts[1 + len(was) :])
         for p in places:
             field = self.place[p][1]
             if norm(field[0]) == norm(f):
@@ -107,6 +114,11 @@ class Function:
         return m[0]
 
     def body(self, text, at, label):
+        text = self.paths(text, at, label)
+        # the test of a `!x` says already what x is
+        return re.sub(r"not-(?:true|false) _ (c\.(?:if|loop)-not-[^\s(),;]+)", r"\1", text)
+
+    def paths(self, text, at, label):
         return re.sub(r"(?<![\w.'])c((?:\.before)*)((?:\.[^\s(){}.;,@\"]+)*)", lambda m: self.path(m, at, label), text)
 
 

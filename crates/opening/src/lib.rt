@@ -8,7 +8,7 @@ use fields::{Cursor, Field, one_byte, outside, refused_at, two_bytes};
 use words::Outcome;
 
 // What a sheet and a plan begin with: the zone count and the cursor after it.
-#[derive(Drop)]
+#[derive(Clone, Copy)]
 pub enum Opening {
     Zones(usize, Cursor),
     Refused(Outcome),

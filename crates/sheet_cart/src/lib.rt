@@ -11,7 +11,7 @@ use sets::zones;
 use words::{LATEST_ARRIVAL, MOST_TIME, Outcome};
 
 // What a cart has before its steps, with the place of its arrival.
-#[derive(Drop)]
+#[derive(Clone, Copy)]
 pub struct CartHead {
     pub lane: u8,
     pub arrival: u32,
@@ -19,14 +19,14 @@ pub struct CartHead {
     pub steps: u8,
 }
 
-#[derive(Drop)]
+#[derive(Clone, Copy)]
 pub enum Head {
     Got(CartHead, Cursor),
     Refused(Outcome),
 }
 
 // A step's zone, passing time and travel time.
-#[derive(Drop)]
+#[derive(Clone, Copy)]
 pub enum Step {
     Got(u8, u16, u16, Cursor),
     Refused(Outcome),

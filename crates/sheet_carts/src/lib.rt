@@ -54,7 +54,7 @@ fn finished(s: &[u8], at: usize, m: usize, sheet: &Table, spot: &[usize; 16]) ->
 }
 
 // Where reading was left: number 0 and the place of the next field, or a refusal.
-#[derive(Drop)]
+#[derive(Clone, Copy)]
 pub struct Reached {
     pub outcome: Outcome,
     pub at: usize,

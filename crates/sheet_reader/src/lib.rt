@@ -17,7 +17,7 @@ use sheet_table::Table;
 use words::{MOST_TIME, Outcome, done};
 
 // The counts read so far: number 0 and the place of the next field, or a refusal.
-#[derive(Drop)]
+#[derive(Clone, Copy)]
 pub struct Counts {
     pub outcome: Outcome,
     pub zones: usize,

@@ -1,23 +1,23 @@
 -- The table of fronts: who is next in front is a lower cart, both have steps, and the lane holds a cart until that one has made its first move.
 use Prim.Native.Nat.{ℕ, zero, suc, ◌≤◌, ◌<◌}
-use mathlib.Core.Path.{◌≡◌, refl, sym, ap, ◌∙◌}
+use mathlib.Core.Path.{◌≡◌, refl, sym, ◌∙◌}
 use mathlib.Core.Logic.{◌↔◌}
-use mathlib.Core.Bool.{Bool, true, false}
+use mathlib.Core.Bool.{false}
 use mathlib.Core.List.{List, []}
 use native.Mathlib.Decide.{dec_lt}
 use native.Mathlib.Omega.{arith}
-use lib.ListN.{length, get_or, get_or-eq_default}
+use lib.ListN.{get_or, get_or-eq_default}
 use lib.Dec.{ltb}
 use borrow.Author.Tests.{lt-ltb, le-ltb}
 use Rattle.words.specs.Lists.{pick, entries}
 use Rattle.words.proofs.Entries.{length_entries, at_entry}
 use Rattle.moves.specs.System.{pos}
-use Rattle.routes.specs.Crossing.{Crossing, steps}
+use Rattle.routes.specs.Crossing.{Crossing}
 use Rattle.routes.specs.Lanes.{next_in_front, lane_holds}
 use Rattle.routes.proofs.Lanes.{Front, front_says, next_is}
 use Rattle.crossing.specs.inner.Tables.{fronts_by, crossing_by, FrontGone}
 use Rattle.crossing.specs.Plans.{route_of}
-use Rattle.crossing.proofs.Tables.{steps_is, step_below}
+use Rattle.crossing.proofs.Tables.{steps_is}
 use Rattle.crossing.proofs.Permitted.{free_says}
 
 module _ (step_table zone_table laneTable : List ℕ) where

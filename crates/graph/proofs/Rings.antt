@@ -92,11 +92,11 @@ module _ (routes lists : List (List ℕ)) (only : OnlyVisitors (plan (λ c. 0) r
       d = to c
 
       go : Dec (there c < pos s d) → StepWay X d (at d) c (at c)
-      go (yes in-it) =
+      go (yes in_it) =
           let e : at d ≡ there c = omega (arith, b.not_left) in
           let from : Involves X d (at d) (wanted c) = (two_steps c b next, inl (ap (zone X d) e ∙ b.is_there)) in
           direct (involved_edge X d c (wanted c) (at d) (at c) b.ahead from (at_wanted c h))
-      go (no before-it) =
+      go (no before_it) =
           let n = there c - 1 - at d in
           let apart = not_next c b next in
           let e : suc (n + at d) ≡ there c = omega arith in

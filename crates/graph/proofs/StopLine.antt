@@ -28,11 +28,11 @@ module _ (lanes zones : ℕ) (lane : ℕ → ℕ) (routes lists : List (List ℕ
   S = system (plan (next_in_front lane routes) routes lists)
 
   -- the published graph with the stop lines has a cycle
-  abbrev Cyclic-lined : Type 0
-  Cyclic-lined = Cyclic (with_stop_line lanes zones lane routes lists)
+  abbrev CyclicLined : Type 0
+  CyclicLined = Cyclic (with_stop_line lanes zones lane routes lists)
 
   -- not all come out exactly where it has
-  pub graph_locked : Cyclic-lined ↔ (¬ (AllComeOut S (start S)))
+  pub graph_locked : CyclicLined ↔ (¬ (AllComeOut S (start S)))
   unfolding with_stop_line
   graph_locked =
       let agrees =
@@ -42,7 +42,7 @@ module _ (lanes zones : ℕ) (lane : ℕ → ℕ) (routes lists : List (List ℕ
       (λ z all. agrees.0 z (same.0 all), λ locked. agrees.1 (λ all. locked (same.1 all)))
 
   -- and all come out exactly where it has none
-  pub graph_accepts : (¬ Cyclic-lined) ↔ AllComeOut S (start S)
+  pub graph_accepts : (¬ CyclicLined) ↔ AllComeOut S (start S)
   unfolding with_stop_line
   graph_accepts =
       let agrees =
@@ -51,7 +51,7 @@ module _ (lanes zones : ℕ) (lane : ℕ → ℕ) (routes lists : List (List ℕ
       let same = lined_out lanes zones lane routes lists full zone_below lane_below in
       (λ none. same.1 (agrees.0 none), λ all. agrees.1 (same.0 all))
 
-  pub graph_agrees : Cyclic-lined ↔ Cycle S
+  pub graph_agrees : CyclicLined ↔ Cycle S
   graph_agrees =
       let meet = meetable (plan (next_in_front lane routes) routes lists) (plan_visitors (next_in_front lane routes) routes lists full) in
       (λ z. (locked_iff_cycle S meet).0 (graph_locked.0 z), λ z. graph_locked.1 ((locked_iff_cycle S meet).1 z))

@@ -51,7 +51,7 @@ pub fn may_lead(sheet: &Table) -> [u16; 16]
 }
 
 // A byte of a list, its count or a cart number, with the cursor after it.
-#[derive(Drop)]
+#[derive(Clone, Copy)]
 pub enum Taken {
     Got(u8, Cursor),
     Refused(Outcome),
@@ -103,7 +103,7 @@ fn first_late(late: usize, at: usize, seen: u16, lead: u16) -> usize
 
 // Where the scan of the lists was left: number 0 after the last list, or a refusal.
 // late is the first byte with a cart that has a higher-numbered one of its lane ahead, 0 if there is none: 20 is tested before it.
-#[derive(Drop)]
+#[derive(Clone, Copy)]
 pub struct ListScan {
     pub outcome: Outcome,
     pub at: usize,

@@ -13,6 +13,7 @@ import subprocess
 import sys
 import tempfile
 
+OURS = dict(l.split() for l in open("/tmp/respelled.tsv")) if os.path.exists("/tmp/respelled.tsv") else {}
 SIMPLE = re.compile(r"^(search rules|omega arith|grind arith)$")
 
 
@@ -82,6 +83,9 @@ class Function:
     def path(self, m, at, label):
         befores, rest = m[1].count("before"), m[2]
         parts = rest.strip(".").split(".") if rest else []
+        parts = parts[:1] + [OURS.get(x, x) for x in parts[1:]]
+        if parts:
+            parts[0] = re.sub("_lem$", "", parts[0])
         if not parts:
             if befores:
                 self.left.append(f"{label}: bare {m[0]}")
@@ -114,9 +118,9 @@ class Function:
         return m[0]
 
     def body(self, text, at, label):
-        text = self.paths(text, at, label)
+        text = self.paths(text, at, label).replace(".type-inv", ".type_inv")
         # the test of a `!x` says already what x is
-        return re.sub(r"not-(?:true|false) _ (c\.(?:if|loop)-not-[^\s(),;]+)", r"\1", text)
+        return re.sub(r"not-(?:true|false)\s+_\s+(c\.(?:if|loop)-not-[^\s(),;]+)", r"\1", text)
 
     def paths(self, text, at, label):
         return re.sub(r"(?<![\w.'])c((?:\.before)*)((?:\.[^\s(){}.;,@\"]+)*)", lambda m: self.path(m, at, label), text)
@@ -165,7 +169,9 @@ def convert(crate, where, names):
             if len(params) != len(paths):
                 fn.left.append(f"{m[1]}: {len(params)} parameters, {len(paths)} names: {params} / {paths}")
             sub = dict(zip(params, paths))
-            body = re.sub(r"[^\s(){}.;,@\"]+", lambda w: sub.get(w[0], w[0]) if not (w.start() and mm[3][w.start() - 1] == ".") else w[0], mm[3])
+            # neither a field behind a dot, nor one that a record gives, nor the variable of a λ is meant
+            at_name = lambda w: (w.start() and mm[3][w.start() - 1] == ".") or re.match(r"\s+= ", mm[3][w.end() :]) or re.match(r"\.\s", mm[3][w.end() :])
+            body = re.sub(r"[^\s(){}.;,@\"]+", lambda w: w[0] if at_name(w) else sub.get(w[0], w[0]), mm[3])
             name = f"{m[2]}-{new}"
             inv.append("\n".join(b[:k] + [f"abbrev pub {name} : goal.{name}"] + ([mm[1].rstrip("\n")] if mm[1] else []) + [f"{name} l = {body}"]))
             continue

@@ -16,7 +16,7 @@ use words::{Outcome, done, refused};
 
 // What judging answers: done with the finish and the number of moves, or a refusal with both 0. Only a locked plan has a ring.
 #[repr(C)]
-#[derive(Drop)]
+#[derive(Clone, Copy)]
 pub struct Judged {
     pub outcome: Outcome,
     pub finish: u32,

@@ -40,7 +40,7 @@ fn go_on(sheet: &Table, ahead: &[u16; 128], at: &[u8; 16], left: &mut [u16; 24],
 }
 
 // Which carts are not out after a turn of the carts, and whether any has moved.
-#[derive(Drop)]
+#[derive(Clone, Copy)]
 struct Turn {
     inside: u16,
     moved: bool,

@@ -15,7 +15,7 @@ use sheet_table::{Table, wide};
 
 // The carts that wait for each other in a circle, begun at the lowest, each with the zone that it wants. Unused entries are 0.
 #[repr(C)]
-#[derive(Drop)]
+#[derive(Clone, Copy)]
 pub struct Ring {
     pub length: usize,
     pub cart: [u8; 16],

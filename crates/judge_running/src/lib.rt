@@ -18,7 +18,7 @@ use sets::carts;
 use sheet_table::Table;
 
 // How many moves are made in all, and who is held no more by the lane.
-#[derive(Drop)]
+#[derive(Clone, Copy)]
 struct FirstMove {
     made: usize,
     freed: u16,
@@ -58,7 +58,7 @@ fn start(
 }
 
 // How many moves are made in all, and whether the cart is out.
-#[derive(Drop)]
+#[derive(Clone, Copy)]
 struct Gone {
     made: usize,
     out: bool,
@@ -121,7 +121,7 @@ pub fn present(sheet: &Table) -> u16
 }
 
 // How many moves are made in all after a turn of the carts, and which carts are asked in the next.
-#[derive(Drop)]
+#[derive(Clone, Copy)]
 struct Turn {
     made: usize,
     going: u16,
@@ -182,7 +182,7 @@ fn sweep(
 }
 
 // Where the carts stand when no permitted move is left, which have left each zone, and how many moves they made.
-#[derive(Drop)]
+#[derive(Clone, Copy)]
 pub struct Settled {
     pub at: [u8; 16],
     pub left: [u16; 24],

@@ -10,7 +10,7 @@ use sheet_table::Table;
 
 // What the judge says of the orders present: whether all carts come out, or else the lowest cart that is stuck;
 // where the carts stand then, which have left each zone, and how many moves they made. With none stuck `stuck` is 16.
-#[derive(Drop)]
+#[derive(Clone, Copy)]
 pub struct Verdict {
     pub out: bool,
     pub stuck: usize,

@@ -21,7 +21,7 @@ use words::{Outcome, done, refused};
 // What a request is answered: done with the cart's new position and the new count, or a refusal with both 0.
 // Only a cart that is held is told how many carts ahead have not left the zone that it wants, with one more if the lane holds it.
 #[repr(C)]
-#[derive(Drop)]
+#[derive(Clone, Copy)]
 pub struct Asked {
     pub outcome: Outcome,
     pub position: u8,
@@ -72,7 +72,7 @@ fn carts_ahead(
 }
 
 // What the checks of a lent record and of a cart in it say: done, with for each zone the carts that have left it, or the first that fails.
-#[derive(Drop)]
+#[derive(Clone, Copy)]
 pub struct CartTested {
     pub outcome: Outcome,
     pub left: [u16; 24],

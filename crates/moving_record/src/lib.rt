@@ -19,7 +19,7 @@ use words::least;
 
 // The crossing record: where each cart stands, 0 on the lane, k in its k-th zone, steps + 1 out, and how many moves were made. All zero is the start.
 #[repr(C)]
-#[derive(Drop)]
+#[derive(Clone, Copy)]
 pub struct Record {
     pub position: [u8; 16],
     pub made: u32,
@@ -124,7 +124,7 @@ fn all_in_line(lanes: &Lanes, at: &[u8; 16]) -> bool
 }
 
 // What the test of a record says: whether a run reaches it, and then for each zone the carts that have left it.
-#[derive(Drop)]
+#[derive(Clone, Copy)]
 pub struct Tested {
     pub reached: bool,
     pub left: [u16; 24],

@@ -19,7 +19,7 @@ use words::{Outcome, done};
 // The chain from the cart asked about: each is held by the next, and the last may move now. Unused entries are 0.
 // `zone` is the zone that each wants; `out` is 1 where the last wants the move out, and no zone.
 #[repr(C)]
-#[derive(Drop)]
+#[derive(Clone, Copy)]
 pub struct Chain {
     pub outcome: Outcome,
     pub length: usize,

@@ -14,7 +14,7 @@ use words::{Outcome, done, refused};
 
 // What the net answers. `locked` is 1 if some cart's out place has no token at the end, else 0; `position` is what the marking left tells of each cart.
 #[repr(C)]
-#[derive(Drop)]
+#[derive(Clone, Copy)]
 pub struct NetRun {
     pub outcome: Outcome,
     pub length: usize,

@@ -182,7 +182,7 @@ fn some_inside(sheet: &Table, position: &[u8; 16]) -> u8
 }
 
 // The net's answer: whether it is locked, and of each cart the position whose place has its token; absent carts 0.
-#[derive(Drop)]
+#[derive(Clone, Copy)]
 pub struct Fired {
     pub locked: u8,
     pub position: [u8; 16],

@@ -10,7 +10,7 @@ use net::net;
 use sheet_text::tell_refusal;
 
 // What the program's words ask for.
-#[derive(Drop)]
+#[derive(Clone, Copy)]
 enum Form {
     Text,
     Dot,
@@ -34,7 +34,7 @@ fn of_words() -> Form {
 }
 
 // The four numbers of a line; of dashes what comes of them, and nobody asks.
-#[derive(Drop)]
+#[derive(Clone, Copy)]
 struct Numbers {
     cart: u8,
     position: u8,
@@ -43,7 +43,7 @@ struct Numbers {
 }
 
 // A node of the drawing, by a line's numbers: a cart's place, its next place, its move, the other cart's move, and the two places between carts.
-#[derive(Drop)]
+#[derive(Clone, Copy)]
 enum Node {
     At,
     Next,

@@ -9,7 +9,7 @@ use planner::Planned;
 use sheet_text::tell_refusal;
 
 // What the program's words ask for.
-#[derive(Drop)]
+#[derive(Clone, Copy)]
 enum Wanted {
     Removal,
     First,

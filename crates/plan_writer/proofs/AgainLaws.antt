@@ -2,13 +2,13 @@
 use Prim.Native.Nat.{ℕ, ◌+◌, ◌≤◌, ◌<◌}
 use mathlib.Core.Path.{◌≡◌, refl, sym, ap, ◌∙◌}
 use mathlib.Core.Bool.{true, false}
-use mathlib.Core.List.{List, ◌++◌}
+use mathlib.Core.List.{List, [], ◌∷◌, ◌++◌}
 use native.Mathlib.Omega.{arith}
 use lib.Dec.{leb}
 use lib.ListN.{length, drop}
 use lib.Seq.{sets, sets-eq}
 use borrow.Author.Tests.{le-leb, lt-leb}
-use Rattle.words.specs.Checks.{refused, first_failing}
+use Rattle.words.specs.Checks.{Check, check, refused, first_failing}
 use Rattle.sheet.specs.Reading.{sheet_of}
 use Rattle.sheet.specs.Valid.{Valid}
 use Rattle.sheet.specs.declared.Sheet.{Sheet}
@@ -22,7 +22,7 @@ use Rattle.plan.proofs.Readable.{readable_whole, readable_sheet, readable_valid}
 use Rattle.plan.proofs.Visitors.{visitors_most}
 use Rattle.plan.proofs.Lists.{listed_cart}
 use Rattle.plan.proofs.RoundTrip.{written_length}
-use Rattle.plan_writer.specs.Writing.{not_written, write_again, room_after}
+use Rattle.plan_writer.specs.Writing.{not_written, wrote, with_plan, write_again, room_after}
 use Rattle.plan_writer.specs.inner.Writing.{lent, Writable}
 
 -- what is written is told by the counts and lists alone
@@ -60,6 +60,10 @@ module _ (s p : List ℕ) where
   abbrev orders : Orders
   orders = (read_plan s p).orders
 
+  -- what writing checks of its own
+  abbrev own : List ℕ → List Check
+  own room = check 28 0 (leb (plan_length (sheet_of s)) (length room)) ∷ []
+
   refused_is : (room : List ℕ) → ((read_plan s p).outcome.number ≡ 0 → ⊥) → (not_written (read_plan s p).outcome ≡ write_again s p (length room)) ×
       (room ≡ room_after s p room)
   unfolding write_again room_after
@@ -78,7 +82,7 @@ module _ (s p : List ℕ) where
     unfolding write_again room_after first_failing
     short_is l =
         let short : leb (plan_length (sheet_of s)) (length room) ≡ false = lt-leb _ _ (rw same_sheet at l) in
-        (sym (further_read _ _ s p _ e ∙ rw short), sym (further_read _ _ s p _ e ∙ rw short))
+        (sym (further_read not_written (wrote s) s p (own room) e ∙ rw short), sym (further_read (λ _. room) (with_plan s p room) s p (own room) e ∙ rw short))
 
     done_is : plan_length sheet ≤ length room → (record { outcome = (read_plan s p).outcome; length = plan_length sheet } ≡ write_again s p (length room))
         × (sets room 0 (written sheet.zones (lent orders.count orders.list)) ≡ room_after s p room)
@@ -86,10 +90,10 @@ module _ (s p : List ℕ) where
     done_is l =
         let fits : leb (plan_length (sheet_of s)) (length room) ≡ true = le-leb _ _ (rw same_sheet at l) in (
           ap (λ (r : PlanRead). record { outcome = r.outcome; length = plan_length r.sheet }) (readable_whole s p e) ∙ sym
-              (further_read _ _ s p _ e ∙ rw fits),
+              (further_read not_written (wrote s) s p (own room) e ∙ rw fits),
           lent_stored sheet.zones orders room (plan_length sheet) long l
               ∙ ap (λ (r : PlanRead). written r.sheet.zones r.orders ++ drop (plan_length r.sheet) room) (readable_whole s p e)
-              ∙ sym (further_read _ _ s p _ e ∙ rw fits),
+              ∙ sym (further_read (λ _. room) (with_plan s p room) s p (own room) e ∙ rw fits),
         )
       where
         long : length (written sheet.zones orders) ≡ plan_length sheet

@@ -58,7 +58,7 @@ pub fn write_plan<'a>(
 
 // What writing a plan answers: done with the plan's length, or a refusal with length 0.
 #[repr(C)]
-#[derive(Drop)]
+#[derive(Clone, Copy)]
 pub struct PlanWritten {
     pub outcome: Outcome,
     pub length: usize,

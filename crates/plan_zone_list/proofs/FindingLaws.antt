@@ -2,7 +2,7 @@
 use Prim.Native.Nat.{ℕ, zero, suc, ◌+◌, ◌-◌, ◌≤◌, ◌<◌}
 use mathlib.Core.Path.{◌≡◌, refl, sym, ap, ◌∙◌}
 use mathlib.Core.Bool.{true, false}
-use mathlib.Core.List.{List}
+use mathlib.Core.List.{List, [], ◌∷◌}
 use native.Mathlib.Omega.{arith}
 use native.Mathlib.Decide.{dec_lt}
 use native.Mathlib.Nat.{add-zero}
@@ -10,7 +10,7 @@ use lib.Dec.{ltb}
 use lib.ListN.{length, get_or, take, drop, length-drop}
 use lib.Seq.{length-take-le, get_or-take, get_or-drop}
 use borrow.Author.Tests.{lt-ltb, le-ltb}
-use Rattle.words.specs.Checks.{done, refused, first_failing}
+use Rattle.words.specs.Checks.{Check, check, done, refused, first_failing}
 use Rattle.words.proofs.Entries.{entries_is}
 use Rattle.fields.specs.Field.{value}
 use Rattle.sheet.specs.Reading.{sheet_of}
@@ -25,7 +25,7 @@ use Rattle.plan.proofs.Further.{further_refused, further_read}
 use Rattle.plan.proofs.Shows.{ShowsList}
 use Rattle.plan.proofs.Visitors.{visitors_most}
 use Rattle.plan.proofs.Readable.{readable_whole, readable_sheet, readable_valid, readable_shows}
-use Rattle.plan_zone_list.specs.Finding.{not_found, find_list, FoundIs}
+use Rattle.plan_zone_list.specs.Finding.{not_found, list_found, find_list, FoundIs}
 use Rattle.plan_zone_list.specs.declared.ListFound.{ListFound}
 
 -- a zone's count stands after the counts and lists of the zones before it
@@ -59,18 +59,22 @@ module _ (s p : List ℕ) (zone : ℕ) where
     at : zone < sheet.zones → count_at p zone ≡ 4 + zone + sum_below zone (count orders)
     at l = count_at_lem p zone (count orders) (λ z h. (shown z (omega arith)).count_is.keeps)
 
+    -- what finding checks of its own
+    abbrev own : List Check
+    own = check 27 0 (ltb zone (sheet_of s).zones) ∷ []
+
     unknown_is : sheet.zones ≤ zone → FoundIs s p zone (not_found (refused 27 0))
     unfolding find_list first_failing
     unknown_is l =
         let unknown : ltb zone (sheet_of s).zones ≡ false = le-ltb _ _ (rw same_zones at l) in
-        record { is = sym (further_read _ _ s p _ e ∙ rw unknown); fits = omega arith }
+        record { is = sym (further_read not_found (list_found p zone) s p own e ∙ rw unknown); fits = omega arith }
 
     found_is : zone < sheet.zones → (sum : ℕ) → sum ≡ sum_below zone (count orders) → FoundIs s p zone
         (record { outcome = (read_plan s p).outcome; start = 5 + zone + sum; length = count orders zone })
     unfolding find_list first_failing
     found_is l sum q =
         let known : ltb zone (sheet_of s).zones ≡ true = lt-ltb _ _ (rw same_zones at l) in
-        record { is = found ∙ sym (further_read _ _ s p _ e ∙ rw known); fits = inside (dec_lt 0 (count orders zone)) }
+        record { is = found ∙ sym (further_read not_found (list_found p zone) s p own e ∙ rw known); fits = inside (dec_lt 0 (count orders zone)) }
       where
         start : 5 + zone + sum ≡ cart_at p zone 0
         start = omega (arith, at l, q)
@@ -123,6 +127,6 @@ module _ (s p : List ℕ) (zone : ℕ) (read : PlanRead) (is : read ≡ read_pla
   pub list_few : read.outcome.number ≡ 0 → zone < read.sheet.zones → count read.orders zone ≤ 16
   list_few = rw is (λ e l. omega (arith, ((readable_valid s p e).list zone l).all_visitors, visitors_most (read_plan s p).sheet zone))
 
-  pub list_found : read.outcome.number ≡ 0 → zone < read.sheet.zones → (sum : ℕ) → sum ≡ sum_below zone (count read.orders) → FoundIs s p zone
+  pub list_found_lem : read.outcome.number ≡ 0 → zone < read.sheet.zones → (sum : ℕ) → sum ≡ sum_below zone (count read.orders) → FoundIs s p zone
       (record { outcome = read.outcome; start = 5 + zone + sum; length = count read.orders zone })
-  list_found = rw is (found_is s p zone)
+  list_found_lem = rw is (found_is s p zone)

@@ -10,7 +10,7 @@ use words::{Outcome, refused};
 
 // Where a zone's passing list stands in the plan lent, or a refusal with both 0.
 #[repr(C)]
-#[derive(Drop)]
+#[derive(Clone, Copy)]
 pub struct ListFound {
     pub outcome: Outcome,
     pub start: usize,

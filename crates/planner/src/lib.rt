@@ -24,7 +24,7 @@ use sheet_table::Table;
 use words::{Outcome, refused};
 
 // By which rule a sheet is planned: document 01's removal, by arrival and then cart number, or the one of these two which finishes earlier.
-#[derive(Drop)]
+#[derive(Clone, Copy)]
 pub enum Rule {
     Removal,
     First,
@@ -32,7 +32,7 @@ pub enum Rule {
 }
 
 // The passing lists of a plan, as they are written, and its finish. Zone z's list stands at 16 * z, and count[z] carts are in it; unused entries are 0.
-#[derive(Drop)]
+#[derive(Clone, Copy)]
 struct ListsPlanned {
     pub count: [u8; 24],
     pub list: [u8; 384],
@@ -99,7 +99,7 @@ fn lists_by(rule: Rule, sheet: &Table, counts: &[u8; 16], m: usize) -> ListsPlan
 
 // What planning answers: done with the plan's length and finish, or a refusal with both 0.
 #[repr(C)]
-#[derive(Drop)]
+#[derive(Clone, Copy)]
 pub struct Planned {
     pub outcome: Outcome,
     pub length: usize,

@@ -11,7 +11,7 @@ use sets::carts;
 use sheet_table::Table;
 
 // The order that is taken: cart `first` before the cart of the step at `step`, in the step's zone.
-#[derive(Drop)]
+#[derive(Clone, Copy)]
 pub struct Choice {
     pub found: bool,
     pub cost: i32,

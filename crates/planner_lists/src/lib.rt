@@ -12,7 +12,7 @@ use sets::carts;
 use sheet_table::Table;
 
 // The passing lists of all zones: how many carts zone z's list has, and its carts from 16 * z on, first through first. Unused entries are 0.
-#[derive(Drop)]
+#[derive(Clone, Copy)]
 pub struct PassingLists {
     pub count: [u8; 24],
     pub list: [u8; 384],

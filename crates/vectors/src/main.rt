@@ -8,7 +8,7 @@ ghost use Rattle.std.specs.Prelude.{◌<◌};
 use libc::STDOUT_FILENO;
 
 // What was read of the present line, and how many digits of the sheet and of the plan.
-#[derive(Drop)]
+#[derive(Clone, Copy)]
 struct Line {
     number: u64,
     is_comment: bool,

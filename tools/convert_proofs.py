@@ -17,6 +17,23 @@ OURS = dict(l.split() for l in open("/tmp/respelled.tsv")) if os.path.exists("/t
 SIMPLE = re.compile(r"^(search rules|omega arith|grind arith)$")
 
 
+def clause_names():
+    """The names of each function's clauses, where it has several of a kind."""
+    out = {}
+    for p in glob.glob("crates/*/src/**/*.rt", recursive=True):
+        with open(p) as f:
+            text = f.read()
+        for m in re.finditer(r"\bfn (\w+)[^{]*?\)(?: -> [^\n{]*)?\n((?: +(?:requires|ensures)[^\n]*\n(?: {8,}[^\n]*\n)*)+)", text):
+            for kind in ("ensures", "requires"):
+                names = re.findall(rf"(?m)^ +{kind}\*? (\w+) \{{", m[2])
+                if len(names) > 1:
+                    out[p.split("/")[1], m[1], kind] = names
+    return out
+
+
+NAMES = clause_names()
+
+
 def norm(s):
     return s.replace("-", "_").lower()
 
@@ -64,9 +81,10 @@ def declarations(text):
 class Function:
     def __init__(self, record, name):
         self.r, self.name, self.left = record, name, []
-        self.place = {}
+        self.place, self.callee = {}, {}
         for old, parent, field, callee, more in record["places"]:
             self.place.setdefault(old, (parent, field))
+            self.callee.setdefault(old, callee)
         self.typed = {old[0]: t for old, t in zip(record["places"], record["typed"])}
         self.arms = {old[0]: a for old, a in zip(record["places"], record["arms"]) if a}
         self.needs = {}
@@ -103,6 +121,11 @@ class Function:
         for p in places:
             field = self.place[p][1]
             if norm(field[0]) == norm(f):
+                callee = self.callee.get(p)
+                if callee and len(parts) > 2 and parts[1] in ("ensures", "requires") and parts[2].isdigit():
+                    of = NAMES.get((callee.split("::")[0], callee.split("::")[-1], parts[1]))
+                    if of and len(of) == 2:
+                        parts = parts[:2] + [of[int(parts[2])]] + parts[3:]
                 if len(parts) > 1 and parts[1] == "given":
                     t = self.typed.get(p) or []
                     of = [x for x, k in t if norm(k) == norm(f)]

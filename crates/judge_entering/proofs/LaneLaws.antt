@@ -13,7 +13,6 @@ use Rattle.words.proofs.Entries.{at_entry, zeros_are, same_entries, put_entry}
 use Rattle.sets.specs.inner.Member.{has, With}
 use Rattle.sets.specs.Counting.{set_below}
 use Rattle.sets.proofs.Counting.{has_set, set_with, set_as_before}
-use Rattle.routes.specs.Crossing.{steps}
 use Rattle.routes.specs.Lanes.{highest, is_on_lane, next_in_front}
 use Rattle.sheet_table.specs.inner.Parts as parts
 use Rattle.crossing.specs.Plans.{route_of}

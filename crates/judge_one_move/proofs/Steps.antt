@@ -5,7 +5,7 @@ use mathlib.Core.Logic.{◌↔◌}
 use mathlib.Core.Bool.{Bool, true, false, false≢true}
 use mathlib.Core.List.{List}
 use native.Mathlib.Omega.{arith}
-use lib.ListN.{get_or, set}
+use lib.ListN.{get_or}
 use lib.Dec.{eqb}
 use Rattle.words.specs.Limits.{most_time}
 use Rattle.words.specs.Lists.{pick}

@@ -10,7 +10,7 @@ use Rattle.sets.specs.inner.Member.{has}
 use Rattle.routes.specs.Lists.{place_of}
 use Rattle.routes.proofs.Places.{place_below, place_names, place_is}
 use Rattle.judge_entering.specs.Times.{times_of}
-use Rattle.removal.specs.Pairs.{Unplanned, rank}
+use Rattle.removal.specs.Pairs.{Unplanned}
 use Rattle.removal.specs.Cost.{is_taken_over, cost}
 use Rattle.removal.proofs.Pairs.{Visiting, pair_says}
 use Rattle.planner_costs.specs.inner.Largest.{OfCarts}

@@ -19,7 +19,7 @@ verdict-of-requires : tie.Need-verdict-of-requires
 verdict-of-requires c κs = record {
   sound = plan_sound (sheet_in _ _ c.before.before.before.args.sheet.now) c.before.before.before.requires.valid
       (orders_in c.before.before.before.args.count.now c.before.before.before.args.list.now c.before.before.before.args.ahead.now)
-      c.before.before.before.requires.valid-orders;
+      c.before.before.before.requires.valid_orders;
   order_144 = refl;
 }
 
@@ -30,7 +30,7 @@ lanes-requires c κs = (plan_sound (sheet_in _ _ c.before.before.before.before.b
     (orders_in c.before.before.before.before.before.before.before.before.args.count.now
     c.before.before.before.before.before.before.before.before.args.list.now
     c.before.before.before.before.before.before.before.before.args.ahead.now)
-    c.before.before.before.before.before.before.before.before.requires.valid-orders).ranged.lane_most
+    c.before.before.before.before.before.before.before.before.requires.valid_orders).ranged.lane_most
 
 ring-of-requires : tie.Need-ring-of-requires
 ring-of-requires c κs = (
@@ -46,7 +46,7 @@ ring-of-requires c κs = (
         (orders_in c.before.before.before.before.before.before.before.before.before.before.before.before.args.count.now
         c.before.before.before.before.before.before.before.before.before.before.before.before.args.list.now
         c.before.before.before.before.before.before.before.before.before.before.before.before.args.ahead.now)
-        c.before.before.before.before.before.before.before.before.before.before.before.before.requires.valid-orders;
+        c.before.before.before.before.before.before.before.before.before.before.before.before.requires.valid_orders;
   },
   omega (
     arith,
@@ -98,7 +98,7 @@ finish-of-requires : tie.Need-finish-of-requires
 finish-of-requires c κs = sheet_leavable
     (sheet_in _ _ c.before.before.before.before.before.before.before.before.before.before.before.before.before.before.args.sheet.now)
     c.before.before.before.before.before.before.before.before.before.before.before.before.before.before.requires.valid _
-    c.before.before.before.before.before.before.before.before.before.before.verdict-of.ensures.settled.enter-most
+    c.before.before.before.before.before.before.before.before.before.before.verdict-of.ensures.settled.enter_most
 
 cast-t31 : tie.Need-overflow-cast-t31
 cast-t31 c = search rules

@@ -22,12 +22,12 @@ wide-requires : tie.Need-wide-requires invariant-loop decreases-loop
 wide-requires c κs = search rules
 
 mul-zone : tie.Need-overflow-mul-zone invariant-loop decreases-loop
-mul-zone c = omega (arith, c.before.before.before.before.requires.cart-16)
+mul-zone c = omega (arith, c.before.before.before.before.requires.cart_16)
 
 add-zone : tie.Need-overflow-add-zone invariant-loop decreases-loop
 add-zone c = omega (
   arith,
-  c.before.before.before.before.requires.cart-16,
+  c.before.before.before.before.requires.cart_16,
   c.before.before.wide.ensures.0,
   from_few _ _ _ _ _ c.before.before.before.before.requires,
 )
@@ -49,12 +49,12 @@ join-requires c κs = (
     c.before.before.before.wide.ensures.0,
     c.before.before.if1.true,
   ))).1,
-  c.before.before.before.before.before.requires.cart-16,
-  c.before.before.before.before.before.requires.have-moved.left-24,
+  c.before.before.before.before.before.requires.cart_16,
+  c.before.before.before.before.before.requires.have-moved.left_24,
 )
 
 steps-requires : tie.Need-steps-requires invariant-loop decreases-loop
-steps-requires c κs = c.before.before.before.requires.cart-16
+steps-requires c κs = c.before.before.before.requires.cart_16
 
 add-p : tie.Need-overflow-add-p invariant-loop decreases-loop
 add-p c = omega (arith, c.before.before.wide.ensures.0, from_few _ _ _ _ _ c.before.before.before.before.requires)
@@ -68,12 +68,12 @@ loop-holds c = rw c.before.before.wide.ensures.0 (⊎_elim (λ w. rw w.4 (going_
     (going_in _ _ _ _ _ c.before.before.before.before.requires (omega (arith, c.before.before.wide.ensures.0, w.0.left)))) c.before.if1.branch)
 
 mul-x : tie.Need-overflow-mul-x invariant-loop decreases-loop
-mul-x c = omega (arith, c.before.before.before.before.before.before.requires.cart-16)
+mul-x c = omega (arith, c.before.before.before.before.before.before.requires.cart_16)
 
 add-x : tie.Need-overflow-add-x invariant-loop decreases-loop
 add-x c = omega (
   arith,
-  c.before.before.before.before.before.before.requires.cart-16,
+  c.before.before.before.before.before.before.requires.cart_16,
   c.before.loop.invariant.not-past,
   steps_few _ _ _ _ _ c.before.before.before.before.before.before.requires,
 )
@@ -101,8 +101,8 @@ zone-requires-2 c κs = (zone_left_asked _ _ _ _ _ _ c.before.before.before.befo
 join-requires-2 : tie.Need-join-requires-2 invariant-loop decreases-loop
 join-requires-2 c κs = (
   rw c.zone2.ensures (zone_left_asked _ _ _ _ _ _ c.before.before.before.before.before.before.loop.invariant).1,
-  c.before.before.before.before.before.before.before.before.before.before.before.requires.cart-16,
-  c.before.before.before.before.before.before.loop.invariant.have-moved.left-24,
+  c.before.before.before.before.before.before.before.before.before.before.before.requires.cart_16,
+  c.before.before.before.before.before.before.loop.invariant.have-moved.left_24,
 )
 
 add-p-2 : tie.Need-overflow-add-p-2 invariant-loop decreases-loop
@@ -122,12 +122,12 @@ loop-again c = going_next _ _ _ _ _ _ c.before.before.before.before.before.befor
     c.before.before.before.if2.false) _ (rw c.before.zone2.ensures at c.join2.ensures)
 
 mul-zone-2 : tie.Need-overflow-mul-zone-2 invariant-loop decreases-loop
-mul-zone-2 c = omega (arith, c.before.before.before.before.before.before.before.requires.cart-16)
+mul-zone-2 c = omega (arith, c.before.before.before.before.before.before.before.requires.cart_16)
 
 add-zone-2 : tie.Need-overflow-add-zone-2 invariant-loop decreases-loop
 add-zone-2 c = omega (
   arith,
-  c.before.before.before.before.before.before.before.requires.cart-16,
+  c.before.before.before.before.before.before.before.requires.cart_16,
   c.before.before.before.steps.ensures,
   steps_few _ _ _ _ _ c.before.before.before.before.before.before.before.requires,
 )
@@ -143,8 +143,8 @@ join-requires-3 : tie.Need-join-requires-3 invariant-loop decreases-loop
 join-requires-3 c κs = (
   rw (c.zone3.ensures, c.before.before.before.before.steps.ensures) (out_asked _ _ _ _ _ _ c.before.before.before.loop.invariant
       (rw c.before.before.before.before.steps.ensures at c.before.before.loop-test.false)).1,
-  c.before.before.before.before.before.before.before.before.requires.cart-16,
-  c.before.before.before.loop.invariant.have-moved.left-24,
+  c.before.before.before.before.before.before.before.before.requires.cart_16,
+  c.before.before.before.loop.invariant.have-moved.left_24,
 )
 
 add-result : tie.Need-overflow-add-result invariant-loop decreases-loop

@@ -36,7 +36,7 @@ carts-ahead-requires c κs = (
   wanting_in _ _ _ _ _ _
       c.before.before.before.before.before.before.before.before.before.before.before.before.before.before.test-cart.ensures
       c.before.before.before.before.before.before.before.before.before.before.before.if1.false _
-      c.before.before.before.before.before.may-move.ensures
+      c.before.before.before.before.before.may_move.ensures
       (not-true _ c.before.before.before.before.if2.true)
       c.before.before.before.before.before.before.before.before.before.before.before.before.before.before.before.before.before.requires,
   c.before.before.before.before.before.before.before.before.before.before.before.before.before.before.before.before.lanes.ensures,
@@ -50,7 +50,7 @@ returns-2 c = λ n a b v w. c.no-move2.ensures ∙ rw c.before.before.before.bef
     (held_in _ _ _ _ _ _
     c.before.before.before.before.before.before.before.before.before.before.before.before.before.before.before.before.test-cart.ensures
     c.before.before.before.before.before.before.before.before.before.before.before.before.before.if1.false
-    _ c.before.before.before.before.before.before.before.may-move.ensures
+    _ c.before.before.before.before.before.before.before.may_move.ensures
     (not-true _ c.before.before.before.before.before.before.if2.true) _ c.before.carts-ahead.ensures n a b v w)
 
 done-requires : tie.Need-done-requires
@@ -91,7 +91,7 @@ returns-3 : tie.Need-returns-3
 returns-3 c = λ n a b v w. rw c.before.done.ensures
     (moved_in _ _ _ _ _ _ c.before.before.before.before.before.before.before.before.before.before.before.before.test-cart.ensures
     c.before.before.before.before.before.before.before.before.before.if1.false
-    _ c.before.before.before.may-move.ensures (not-false _ c.before.before.if2.false) n a b v w)
+    _ c.before.before.before.may_move.ensures (not-false _ c.before.before.if2.false) n a b v w)
 
 pub ask-plan-spec : {M : Type 1} → statement M
 ask-plan-spec =

@@ -12,7 +12,7 @@ use Rattle.moving_asking.proofs.test_cart.Statement.{statement}
 use Rattle.moving_asking.proofs.test_cart.Tie as tie
 
 all-out-requires : tie.Need-all-out-requires
-all-out-requires c κs = (plan_sound _ c.requires.0.valid _ c.requires.0.valid-orders, c.requires.1)
+all-out-requires c κs = (plan_sound _ c.requires.0.valid _ c.requires.0.valid_orders, c.requires.1)
 
 refused-requires : tie.Need-refused-requires
 refused-requires c κs = search rules
@@ -25,7 +25,7 @@ returns c = refused_in _ _ _ _ _ 22 _ (lit< tt) (c.untested.ensures ∙ ap untes
     (λ n a b v w. locked_is _ _ v w _ _ _ c.before.before.before.all-out.ensures (not-true _ c.before.before.if1.true))
 
 test-record-requires : tie.Need-test-record-requires
-test-record-requires c κs = (sheet_orderly _ _ c.before.before.requires.0.valid c.before.before.requires.0.valid-orders, c.before.before.requires.1)
+test-record-requires c κs = (sheet_orderly _ _ c.before.before.requires.0.valid c.before.before.requires.0.valid_orders, c.before.before.requires.1)
 
 refused-requires-2 : tie.Need-refused-requires-2
 refused-requires-2 c κs = search rules
@@ -86,7 +86,7 @@ returns-5 c = record {
       (not-false _ c.before.before.before.before.before.before.before.if2.false) c.before.before.before.before.before.before.if3.false
       (rw (c.before.before.before.before.before.steps.ensures, c.before.before.before.wide.ensures.0) at c.before.before.if4.false);
   standing = λ _. tested_standing _ _ c.before.before.before.before.before.before.before.before.before.before.before.before.requires.0.valid
-      c.before.before.before.before.before.before.before.before.before.before.before.before.requires.0.valid-orders _ _
+      c.before.before.before.before.before.before.before.before.before.before.before.before.requires.0.valid_orders _ _
       c.before.before.before.before.before.before.before.before.before.test-record.ensures
       (not-false _ c.before.before.before.before.before.before.before.if2.false);
 }

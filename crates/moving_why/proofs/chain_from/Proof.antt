@@ -29,23 +29,23 @@ cast-cart : tie.Need-overflow-cast-cart invariant-loop decreases-loop
 cast-cart c = omega (arith, c.loop.invariant.here-cart)
 
 array-write-cart : tie.Need-array-write-cart invariant-loop decreases-loop
-array-write-cart c = so_far_few _ _ _ _ _ _ _ _ _ c.loop.invariant _ c.before.requires.far-few c.before.requires.free
+array-write-cart c = so_far_few _ _ _ _ _ _ _ _ _ c.loop.invariant _ c.before.requires.far_few c.before.requires.free
 
 wanted-zone-requires : tie.Need-wanted-zone-requires invariant-loop decreases-loop
 wanted-zone-requires c κs = (
   c.loop.invariant.here-cart,
-  c.before.requires.pointable.wanting.steps-most _ c.loop.invariant.here-cart,
-  c.before.requires.pointable.wanting.zone-below _ c.loop.invariant.here-cart,
+  c.before.requires.pointable.wanting.steps_most _ c.loop.invariant.here-cart,
+  c.before.requires.pointable.wanting.zone_below _ c.loop.invariant.here-cart,
 )
 
 cast-zone : tie.Need-overflow-cast-zone invariant-loop decreases-loop
-cast-zone c = omega (arith, c.wanted-zone.ensures, c.before.before.requires.pointable.wanting.zone-below _ c.before.loop.invariant.here-cart)
+cast-zone c = omega (arith, c.wanted-zone.ensures, c.before.before.requires.pointable.wanting.zone_below _ c.before.loop.invariant.here-cart)
 
 array-write-zone : tie.Need-array-write-zone invariant-loop decreases-loop
-array-write-zone c = so_far_few _ _ _ _ _ _ _ _ _ c.before.loop.invariant _ c.before.before.requires.far-few c.before.before.requires.free
+array-write-zone c = so_far_few _ _ _ _ _ _ _ _ _ c.before.loop.invariant _ c.before.before.requires.far_few c.before.before.requires.free
 
 may-move-requires : tie.Need-may-move-requires invariant-loop decreases-loop
-may-move-requires c κs = (c.before.before.requires.standing, c.before.loop.invariant.here-cart, c.before.before.requires.pointable.lanes-are)
+may-move-requires c κs = (c.before.before.requires.standing, c.before.loop.invariant.here-cart, c.before.before.requires.pointable.lanes_are)
 
 done-requires : tie.Need-done-requires invariant-loop decreases-loop
 done-requires c κs = search rules
@@ -55,7 +55,7 @@ add-t21 c = record {
   fits = omega (
     arith,
     so_far_few _ _ _ _ _ _ _ _ _ c.before.before.before.before.loop.invariant _
-        c.before.before.before.before.before.requires.far-few c.before.before.before.before.before.requires.free,
+        c.before.before.before.before.before.requires.far_few c.before.before.before.before.before.requires.free,
   );
 }
 
@@ -65,15 +65,15 @@ wants-out-requires c κs = c.before.before.before.before.loop.invariant.here-car
 returns : tie.Need-returns invariant-loop decreases-loop
 returns c = rw (c.before.done.ensures, c.before.before.before.before.wanted-zone.ensures, c.wants-out.ensures)
     (so_far_end _ _ _ _ _ _ _ _ _ c.before.before.before.before.before.loop.invariant _
-    c.before.before.before.before.before.before.requires.far-few c.before.before.before.before.before.before.requires.free (carts_16 _ _ _ _)
-    (c.before.before.before.may-move.ensures.0 c.before.before.if1.true)
+    c.before.before.before.before.before.before.requires.far_few c.before.before.before.before.before.before.requires.free (carts_16 _ _ _ _)
+    (c.before.before.before.may_move.ensures.0 c.before.before.if1.true)
     (last_in (parts.steps c.before.before.before.before.before.before.args.sheet.now)
     c.before.before.before.before.before.before.args.at.now))
 
 add-n : tie.Need-overflow-add-n invariant-loop decreases-loop
 add-n c = omega (
   arith,
-  so_far_few _ _ _ _ _ _ _ _ _ c.before.before.before.loop.invariant _ c.before.before.before.before.requires.far-few
+  so_far_few _ _ _ _ _ _ _ _ _ c.before.before.before.loop.invariant _ c.before.before.before.before.requires.far_few
       c.before.before.before.before.requires.free,
 )
 
@@ -84,13 +84,13 @@ loop-less : tie.Need-loop-smaller invariant-loop decreases-loop
 loop-less c = omega (
   arith,
   so_far_few _ _ _ _ _ _ _ _ _ c.before.before.before.before.loop.invariant _
-      c.before.before.before.before.before.requires.far-few c.before.before.before.before.before.requires.free,
+      c.before.before.before.before.before.requires.far_few c.before.before.before.before.before.requires.free,
 )
 
 loop-again : tie.Need-loop-preserved invariant-loop decreases-loop
 loop-again c = rw (c.before.before.before.wanted-zone.ensures, c.points_to.ensures.0)
-    (so_far_next _ _ _ _ _ _ _ _ _ c.before.before.before.before.loop.invariant _ c.before.before.before.before.before.requires.far-few
-    c.before.before.before.before.before.requires.free (λ m. false≢true (sym c.before.if1.false ∙ c.before.before.may-move.ensures.1 m))
+    (so_far_next _ _ _ _ _ _ _ _ _ c.before.before.before.before.loop.invariant _ c.before.before.before.before.before.requires.far_few
+    c.before.before.before.before.before.requires.free (λ m. false≢true (sym c.before.if1.false ∙ c.before.before.may_move.ensures.1 m))
     (rw c.points_to.ensures.0 at c.points_to.ensures.1))
 
 pub chain-from-spec : {M : Type 1} → statement M

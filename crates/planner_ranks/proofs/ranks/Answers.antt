@@ -1,0 +1,13 @@
+use native.Mathlib.Omega.{arith}
+use Rattle.words.proofs.Filling.{table_none, table_next}
+use Rattle.planner_ranks.proofs.Ranking.{ranked_all}
+use Rattle.planner_ranks.proofs.ranks.Goals as goal
+
+pub loop-c-init : goal.loop-c-init
+loop-c-init c = (omega arith, table_none 16 _)
+
+pub loop-c-preserved : goal.loop-c-preserved
+loop-c-preserved c = (omega arith, table_next 16 _ _ _ _ (omega arith) c.rank_of.ensures c.loop-c.invariant.1)
+
+pub returns : goal.returns
+returns c = ranked_all _ _ _ _ (omega arith) (omega (arith, c.loop-c.invariant.0)) c.loop-c.invariant.1

@@ -4,14 +4,14 @@ use Rattle.planner_trials.proofs.choose.Statement.{statement}
 use Rattle.planner_trials.proofs.choose.Tie as tie
 
 finish-of-requires : tie.Need-finish-of-requires
-finish-of-requires c κs = trial_leavable _ _ _ _ _ _ _ _ _ _ c.requires.0.runs-out c.requires.0.underway
+finish-of-requires c κs = trial_leavable _ _ _ _ _ _ _ _ _ _ c.requires.0.runs_out c.requires.0.underway
 
 spare-times-requires : tie.Need-spare-times-requires
-spare-times-requires c κs = trial_ready _ _ _ _ _ _ _ _ _ _ c.before.before.requires.0.runs-out _ c.before.before.requires.1 _
+spare-times-requires c κs = trial_ready _ _ _ _ _ _ _ _ _ _ c.before.before.requires.0.runs_out _ c.before.before.requires.1 _
     c.before.finish-of.ensures c.before.before.requires.0.underway
 
 largest-cost-requires : tie.Need-largest-cost-requires
-largest-cost-requires c κs = trial_range _ _ _ _ _ _ _ _ _ _ c.before.before.before.before.requires.0.runs-out _ _
+largest-cost-requires c κs = trial_range _ _ _ _ _ _ _ _ _ _ c.before.before.before.before.requires.0.runs_out _ _
     c.before.before.before.finish-of.ensures c.before.spare-times.ensures c.before.before.before.before.requires.0.underway
 
 returns : tie.Need-returns

@@ -6,18 +6,18 @@ use Rattle.planner_trials.proofs.decide_either.Statement.{statement}
 use Rattle.planner_trials.proofs.decide_either.Tie as tie
 
 zone-requires : tie.Need-zone-requires
-zone-requires c κs = c.requires.candidate.step-below
+zone-requires c κs = c.requires.candidate.step_below
 
 mul-other : tie.Need-overflow-mul-other
-mul-other c = omega (arith, c.before.requires.underway.told.zone-most c.before.args.step, c.zone.ensures)
+mul-other c = omega (arith, c.before.requires.underway.told.zone_most c.before.args.step, c.zone.ensures)
 
 add-other : tie.Need-overflow-add-other
-add-other c = omega (arith, c.before.requires.underway.told.zone-most c.before.args.step, c.before.requires.candidate.first_below, c.zone.ensures)
+add-other c = omega (arith, c.before.requires.underway.told.zone_most c.before.args.step, c.before.requires.candidate.first_below, c.zone.ensures)
 
 element-copy-out-other : tie.Need-element-copy-out-other
 element-copy-out-other c = omega (
   arith,
-  c.before.requires.underway.told.zone-most c.before.args.step,
+  c.before.requires.underway.told.zone_most c.before.args.step,
   c.before.requires.candidate.first_below,
   c.zone.ensures,
 )
@@ -32,7 +32,7 @@ decide-requires c κs = (
     c.before.before.before.before.before.requires.underway.told.places.below
         (16 * c.before.before.before.before.zone.result + c.before.before.before.before.before.args.first),
   ),
-  c.before.before.before.before.before.requires.candidate.step-below,
+  c.before.before.before.before.before.requires.candidate.step_below,
 )
 
 verdict-of-requires : tie.Need-verdict-of-requires
@@ -42,7 +42,7 @@ verdict-of-requires c κs = opposite_runnable _ _ _ _ _ _ _ c.before.before.befo
       c.before.before.before.before.before.before.before.before.before.requires.pairs,
       c.before.before.before.before.before.before.before.before.before.requires.underway,
     ) _
-    c.before.before.before.before.before.before.before.before.before.requires.order-144
+    c.before.before.before.before.before.before.before.before.before.requires.order_144
 
 returns : tie.Need-returns
 returns c = opposite_decided _ _ _ _ _ _ _ c.before.before.before.before.before.before.before.before.before.before.before.requires.candidate _ _ _
@@ -51,7 +51,7 @@ returns c = opposite_decided _ _ _ _ _ _ _ c.before.before.before.before.before.
 
 turn-round-requires : tie.Need-turn-round-requires
 turn-round-requires c κs =
-    (omega (arith, c.before.before.before.before.before.before.before.before.before.before.before.before.before.requires.underway.told.places.below (16 * c.before.before.before.before.before.before.before.before.before.before.before.before.zone.result + c.before.before.before.before.before.before.before.before.before.before.before.before.before.args.first)), c.before.before.before.before.before.before.before.before.before.before.before.before.before.requires.candidate.step-below)
+    (omega (arith, c.before.before.before.before.before.before.before.before.before.before.before.before.before.requires.underway.told.places.below (16 * c.before.before.before.before.before.before.before.before.before.before.before.before.zone.result + c.before.before.before.before.before.before.before.before.before.before.before.before.before.args.first)), c.before.before.before.before.before.before.before.before.before.before.before.before.before.requires.candidate.step_below)
 
 verdict-of-requires-2 : tie.Need-verdict-of-requires-2
 verdict-of-requires-2 c κs = this_runnable _ _ _ _ _ _ _

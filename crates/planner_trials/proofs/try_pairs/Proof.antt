@@ -14,7 +14,7 @@ abbrev decreases-loop : tie.decreases-loop
 decreases-loop sheet ranks visit ahead₀ behind₀ undecided₀ enter₀ order₀ rears run₀ ahead behind undecided enter order run = left_to_try undecided run
 
 rears-requires : tie.Need-rears-requires invariant-loop decreases-loop
-rears-requires c κs = trial_lanes _ _ _ _ _ _ _ _ _ _ c.requires.runs-out c.requires.underway
+rears-requires c κs = trial_lanes _ _ _ _ _ _ _ _ _ _ c.requires.runs_out c.requires.underway
 
 loop-holds : tie.Need-loop-init invariant-loop decreases-loop
 loop-holds c = tried_none _ _ _ _ _ _ _ _ _ c.before.requires

@@ -1,6 +1,6 @@
 /* Oblakosh: who goes through the crossing first. The public operations, for C and for whatever calls C, on x86-64 Linux.
 
-   Libraries, made by `rt staticlib`, each with the functions of one crate:
+   Libraries, made by `./build linked_judge_c oblakosh_c moving_c`, each with the functions of one crate:
      liblinked_judge.a  oblakosh_read_sheet, oblakosh_read_plan, oblakosh_judge
      liboblakosh.a      these and every other function below, but oblakosh_move_cart
      libmoving.a        oblakosh_move_cart
@@ -21,7 +21,7 @@
    Who owns what. All memory is the caller's. It is lent for the call: the library keeps no pointer, allocates nothing and
    has no state, so calls need no order and may be made from several threads. Answers are returned by value.
 
-   Stack, measured (bench/run): reading a plan takes 6 KB, judging 6 KB, a request 5 KB, planning 11 KB.
+   Stack, measured (bench/run, with rattle-kit-5b): reading a plan takes 6 KB, judging 6 KB, a request 5 KB, planning 11 KB.
 
    Carts, zones, steps and places count from 0; times are milliseconds; unused entries are 0. */
 #ifndef OBLAKOSH_H

@@ -1,4 +1,4 @@
-//! Links the static libraries that `rt staticlib` made: in OBLAKOSH_LIB_DIR, else in the repository's target/staticlib.
+//! Links the static libraries that the repository's `./build` made: in OBLAKOSH_LIB_DIR, else in its target/staticlib.
 use std::env;
 use std::fs;
 use std::os::unix::process::parent_id;

@@ -1,5 +1,5 @@
-// What C and Rust call (include/oblakosh.h): the judge's three functions once more, and the other operations.
-// The routine that moves carts is exported by its own crate, `moving`: no function here could hand a `&mut` record on to it.
+// What C and Rust call (include/oblakosh.h): the judge's three functions once more, and the other operations, under the names that
+// `oblakosh_c` exports. The routine that moves carts stands in its own crate, `moving`.
 #![tactic(auto)]
 
 ghost use Rattle.std.specs.Prelude.{◌≡◌, length};
@@ -12,7 +12,7 @@ ghost use Rattle.planner.specs.Planning as planning;
 ghost use Rattle.planner.specs.declared.Rule.TheVariants.{Removal, First, Better};
 ghost use Rattle.moving_asking.specs.Asking.{ask};
 ghost use Rattle.moving_why.specs.Why.{why};
-ghost use Rattle.net.specs.Netting.{NetRunIs, room_after as netRoomAfter};
+ghost use Rattle.net.specs.Netting.{NetRunIs, room_after as net_room_after};
 
 use judge::Judged;
 use moving_asking::Asked;
@@ -26,24 +26,21 @@ use planner::Planned;
 use sheet::SheetRead;
 
 // Reading a sheet: 1 to 14.
-#[unsafe(no_mangle)]
-pub extern "C" fn oblakosh_read_sheet(s: &[u8]) -> SheetRead
+pub fn oblakosh_read_sheet(s: &[u8]) -> SheetRead
     ensures { result ≡ read_sheet s.now }
 {
     linked_judge::oblakosh_read_sheet(s)
 }
 
 // Reading a plan: 1 to 21.
-#[unsafe(no_mangle)]
-pub extern "C" fn oblakosh_read_plan(s: &[u8], p: &[u8]) -> PlanRead
+pub fn oblakosh_read_plan(s: &[u8], p: &[u8]) -> PlanRead
     ensures { result ≡ read_plan s.now p.now }
 {
     linked_judge::oblakosh_read_plan(s, p)
 }
 
 // Judging: 1 to 22, then 28.
-#[unsafe(no_mangle)]
-pub extern "C" fn oblakosh_judge(s: &[u8], p: &[u8], words: &mut [u32]) -> Judged
+pub fn oblakosh_judge(s: &[u8], p: &[u8], words: &mut [u32]) -> Judged
     ensures answer { result ≡ judge s.now p.now (length words.old) }
     ensures holds { words.new ≡ words_after s.now p.now words.old }
 {
@@ -51,8 +48,7 @@ pub extern "C" fn oblakosh_judge(s: &[u8], p: &[u8], words: &mut [u32]) -> Judge
 }
 
 // Writing a plan again: 1 to 21, then 28.
-#[unsafe(no_mangle)]
-pub extern "C" fn oblakosh_write_again(s: &[u8], p: &[u8], room: &mut [u8]) -> PlanWritten
+pub fn oblakosh_write_again(s: &[u8], p: &[u8], room: &mut [u8]) -> PlanWritten
     ensures answer { result ≡ write_again s.now p.now (length room.old) }
     ensures holds { room.new ≡ room_after s.now p.now room.old }
 {
@@ -60,16 +56,14 @@ pub extern "C" fn oblakosh_write_again(s: &[u8], p: &[u8], room: &mut [u8]) -> P
 }
 
 // One zone's list, as the part of the plan lent that starts there: 1 to 21, then 27.
-#[unsafe(no_mangle)]
-pub extern "C" fn oblakosh_find_list(s: &[u8], p: &[u8], zone: usize) -> ListFound
+pub fn oblakosh_find_list(s: &[u8], p: &[u8], zone: usize) -> ListFound
     ensures { FoundIs s.now p.now zone result }
 {
     plan_zone_list::find_list(s, p, zone)
 }
 
 // Planning a sheet by the removal rule: 1 to 14, then 28.
-#[unsafe(no_mangle)]
-pub extern "C" fn oblakosh_plan(s: &[u8], room: &mut [u8]) -> Planned
+pub fn oblakosh_plan(s: &[u8], room: &mut [u8]) -> Planned
     ensures answer { result ≡ planning.plan_sheet Removal s.now (length room.old) }
     ensures holds { room.new ≡ planning.room_after Removal s.now room.old }
 {
@@ -77,8 +71,7 @@ pub extern "C" fn oblakosh_plan(s: &[u8], room: &mut [u8]) -> Planned
 }
 
 // Planning a sheet by arrival, then cart number: 1 to 14, then 28.
-#[unsafe(no_mangle)]
-pub extern "C" fn oblakosh_plan_first(s: &[u8], room: &mut [u8]) -> Planned
+pub fn oblakosh_plan_first(s: &[u8], room: &mut [u8]) -> Planned
     ensures answer { result ≡ planning.plan_sheet First s.now (length room.old) }
     ensures holds { room.new ≡ planning.room_after First s.now room.old }
 {
@@ -86,8 +79,7 @@ pub extern "C" fn oblakosh_plan_first(s: &[u8], room: &mut [u8]) -> Planned
 }
 
 // Planning a sheet both ways, and the plan which finishes earlier, the removal plan if equal: 1 to 14, then 28.
-#[unsafe(no_mangle)]
-pub extern "C" fn oblakosh_plan_better(s: &[u8], room: &mut [u8]) -> Planned
+pub fn oblakosh_plan_better(s: &[u8], room: &mut [u8]) -> Planned
     ensures answer { result ≡ planning.plan_sheet Better s.now (length room.old) }
     ensures holds { room.new ≡ planning.room_after Better s.now room.old }
 {
@@ -95,26 +87,23 @@ pub extern "C" fn oblakosh_plan_better(s: &[u8], room: &mut [u8]) -> Planned
 }
 
 // What moving a cart would answer, with the record by value: 1 to 26.
-#[unsafe(no_mangle)]
-pub extern "C" fn oblakosh_ask(s: &[u8], p: &[u8], lent: Record, cart: usize) -> Asked
+pub fn oblakosh_ask(s: &[u8], p: &[u8], lent: Record, cart: usize) -> Asked
     ensures { result ≡ ask s.now p.now lent cart }
 {
     moving_asking::ask(s, p, lent, cart)
 }
 
 // Why a cart does not move: the chain from it down to one that may move now: 1 to 25.
-#[unsafe(no_mangle)]
-pub extern "C" fn oblakosh_why(s: &[u8], p: &[u8], lent: Record, cart: usize) -> Chain
+pub fn oblakosh_why(s: &[u8], p: &[u8], lent: Record, cart: usize) -> Chain
     ensures { result ≡ why s.now p.now lent cart }
 {
     moving_why::why(s, p, lent, cart)
 }
 
 // The Petri net beside the judge, fired until no transition can fire and written as text: 1 to 21, then 28.
-#[unsafe(no_mangle)]
-pub extern "C" fn oblakosh_net(s: &[u8], p: &[u8], room: &mut [u8]) -> NetRun
+pub fn oblakosh_net(s: &[u8], p: &[u8], room: &mut [u8]) -> NetRun
     ensures answer { NetRunIs s.now p.now (length room.old) result }
-    ensures holds { room.new ≡ netRoomAfter s.now p.now room.old }
+    ensures holds { room.new ≡ net_room_after s.now p.now room.old }
 {
     net::net(s, p, room)
 }

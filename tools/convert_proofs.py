@@ -141,6 +141,9 @@ class Function:
         return m[0]
 
     def body(self, text, at, label):
+        # a `let` that only names a position goes with the positions
+        while m := re.search(r"let (\S+) =\s+(c(?:\.before)*) in\s+", text):
+            text = text[: m.start()] + re.sub(r"(?<![\w.'-])" + re.escape(m[1]) + r"(?![\w'-])", m[2], text[m.end() :])
         text = self.paths(text, at, label).replace(".type-inv", ".type_inv")
         # the test of a `!x` says already what x is
         return re.sub(r"not-(?:true|false)\s+_\s+(c\.(?:if|loop)-not-[^\s(),;]+)", r"\1", text)

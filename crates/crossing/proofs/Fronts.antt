@@ -20,12 +20,12 @@ use Rattle.crossing.specs.Plans.{route_of}
 use Rattle.crossing.proofs.Tables.{steps_is}
 use Rattle.crossing.proofs.Permitted.{free_says}
 
-module _ (step_table zone_table laneTable : List ℕ) where
+module _ (step_table zone_table lane_table : List ℕ) where
   abbrev fronts : List ℕ
-  fronts = fronts_by step_table zone_table laneTable
+  fronts = fronts_by step_table zone_table lane_table
 
   abbrev next : ℕ → ℕ
-  next = next_in_front (λ c. get_or laneTable c 0) (entries 16 0 (route_of step_table zone_table))
+  next = next_in_front (λ c. get_or lane_table c 0) (entries 16 0 (route_of step_table zone_table))
 
   abbrev rule : ℕ → ℕ
   rule c = pick (ltb 0 (get_or step_table c 0)) (next c) 0
@@ -44,9 +44,9 @@ module _ (step_table zone_table laneTable : List ℕ) where
   unfolding fronts_by
   fronts_past c past = get_or-eq_default fronts 0 {n = c} (omega (arith, length_entries 16 0 rule))
 
-  module _ (aheadTable : List ℕ) where
+  module _ (ahead_table : List ℕ) where
     abbrev X : Crossing
-    X = crossing_by step_table zone_table fronts aheadTable
+    X = crossing_by step_table zone_table fronts ahead_table
 
     -- whoever is in front by the table is lower, and is in front in the crossing
     pub front_lower : (d c : ℕ) → get_or fronts c 0 ≡ suc d → (d < c) × Front X d c
@@ -55,8 +55,8 @@ module _ (step_table zone_table laneTable : List ℕ) where
       where
         here : (l : c < 16) → Dec (0 < get_or step_table c 0) → (d < c) × Front X d c
         here l (yes some) =
-            let (below, (there, _)) = next_is (λ c. get_or laneTable c 0) X.routes d c (sym (fronts_are c l some) ∙ is) in
-            (below, record { is = is; there = there; here = omega (arith, some, steps_is step_table zone_table fronts aheadTable c l) })
+            let (below, (there, _)) = next_is (λ c. get_or lane_table c 0) X.routes d c (sym (fronts_are c l some) ∙ is) in
+            (below, record { is = is; there = there; here = omega (arith, some, steps_is step_table zone_table fronts ahead_table c l) })
         here l (no none) = absurd (omega (arith, is, fronts_absent c l none))
 
         go : Dec (c < 16) → (d < c) × Front X d c

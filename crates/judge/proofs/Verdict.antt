@@ -12,7 +12,7 @@ use Rattle.moves.specs.Runs.{end}
 use Rattle.moves.specs.inner.Runs.{AllComeOut}
 use Rattle.routes.specs.Lists.{all_below}
 use Rattle.routes.specs.Crossing.{Crossing}
-use Rattle.routes.specs.Moves.{system, moves_of}
+use Rattle.routes.specs.Moves.{moves_of}
 use Rattle.routes.proofs.Moves.{out_are}
 use Rattle.times.specs.Times.{Given}
 use Rattle.times.specs.Running as running

@@ -34,9 +34,9 @@ module _ (X : Crossing) (G : Given) (t : ℕ → ℕ → ℕ) (keeps : KeepsRule
       let further : suc s + n ≡ s + suc n = omega arith in
       omega (arith, leaving_next_most s (omega (arith, e)), leaving_last n (suc s) (omega (arith, e)), ap (leaving X G t c) further)
 
-module _ (step_table zone_table front_table aheadTable lane arrival passing travel follow cross enter : List ℕ) where
+module _ (step_table zone_table front_table ahead_table lane arrival passing travel follow cross enter : List ℕ) where
   abbrev X : Crossing
-  X = crossing_by step_table zone_table front_table aheadTable
+  X = crossing_by step_table zone_table front_table ahead_table
 
   abbrev G : Given
   G = given_by lane arrival passing travel follow cross
@@ -45,7 +45,7 @@ module _ (step_table zone_table front_table aheadTable lane arrival passing trav
     last_leaving_is : (c : ℕ) → c < 16 → 0 < steps X c → last_leaving step_table passing enter c ≡ leaving X G (times_of enter) c (steps X c - 1)
     unfolding given_by
     last_leaving_is c l h =
-        let k = steps_is step_table zone_table front_table aheadTable c l in
+        let k = steps_is step_table zone_table front_table ahead_table c l in
         let last = last_is X G (times_of enter) keeps c (steps X c - 1) (omega (arith, h)) in
         rw (ne_eqb (get_or step_table c 0) 0 (λ e. omega (arith, k, e)))
         (ap (λ (n : ℕ). get_or enter (8 * c + (n - 1)) 0 + get_or passing (8 * c + (n - 1)) 0) (sym k) ∙ sym last)
@@ -56,7 +56,7 @@ module _ (step_table zone_table front_table aheadTable lane arrival passing trav
         late : finish X G (times_of enter) ≤ largest (last_leaving step_table passing enter) 16
         late =
             finish_most X G (times_of enter) _ λ c s h.
-            let l : c < 16 = step_below step_table zone_table front_table aheadTable c s h in
+            let l : c < 16 = step_below step_table zone_table front_table ahead_table c s h in
             let place : s + (steps X c - 1 - s) ≡ steps X c - 1 = omega (arith, h) in
             omega (
               arith,
@@ -71,7 +71,7 @@ module _ (step_table zone_table front_table aheadTable lane arrival passing trav
         one c l (yes h) = omega (arith, last_leaving_is c l h, leaving_finish X G (times_of enter) c (steps X c - 1) (omega (arith, h)))
         one c l (no m) =
             let none : last_leaving step_table passing enter c ≡ 0 = rw (eq-eqb (get_or step_table c 0) 0
-            (omega (arith, m, steps_is step_table zone_table front_table aheadTable c l))) in
+            (omega (arith, m, steps_is step_table zone_table front_table ahead_table c l))) in
             omega (arith, none)
 
         early : largest (last_leaving step_table passing enter) 16 ≤ finish X G (times_of enter)

@@ -1,10 +1,11 @@
 // Reads the first 2,048 bytes of standard input and no more, a sheet and then a plan, and prints the verdict.
 #![tactic(auto)]
 
-use libc::STDIN_FILENO;
+use std::io;
+use std::io::Read;
 
-fn main() {
-    let mut input = [0u8; 2048];
-    let n = io::read_full(STDIN_FILENO, &mut input);
-    judge_text::show_verdict(&input[..n]);
+fn main(rt: HostRuntime) -> io::Result<()> {
+    let mut input = Vec::new(rt.alloc());
+    rt.reader().take(2048).read_to_end(&mut input)?;
+    judge_text::show_verdict(&rt, &input)
 }

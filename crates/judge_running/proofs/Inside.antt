@@ -38,9 +38,9 @@ module _ (step_table : List ℕ) where
   unfolding present_set
   present_as_before c set none is = is ∙ sym (set_as_before c _ (le-ltb 0 (get_or step_table c 0) none))
 
-  module _ (zone_table front_table aheadTable : List ℕ) where
+  module _ (zone_table front_table ahead_table : List ℕ) where
     abbrev X : Crossing
-    X = crossing_by step_table zone_table front_table aheadTable
+    X = crossing_by step_table zone_table front_table ahead_table
 
     -- are those that are not out at the start
     pub present_inside : InsideSet X (replicate 16 0) (present_set step_table 16)
@@ -50,8 +50,8 @@ module _ (step_table : List ℕ) where
         λ e. omega (arith, zeros_pos 16 c, out_steps X c 0 (some c e)),
         λ h.
             let has_steps : 0 < steps X c = (moves_within (steps X c) _ (rw (out_are X c) at h)).0 in
-            let l : c < 16 = step_below step_table zone_table front_table aheadTable c 0 has_steps in
-            has_set 16 _ c l ∙ lt-ltb 0 (get_or step_table c 0) (omega (arith, steps_is step_table zone_table front_table aheadTable c l)),
+            let l : c < 16 = step_below step_table zone_table front_table ahead_table c 0 has_steps in
+            has_set 16 _ c l ∙ lt-ltb 0 (get_or step_table c 0) (omega (arith, steps_is step_table zone_table front_table ahead_table c l)),
       );
       wants = λ c e. omega (arith, zeros_pos 16 c, some c e);
     }
@@ -60,7 +60,7 @@ module _ (step_table : List ℕ) where
         some c e =
             let l : c < 16 = has_below 16 _ c (set_fits 16 _) e in
             let counted : 0 < get_or step_table c 0 = ltb-true 0 _ (sym (has_set 16 _ c l) ∙ e) in
-            omega (arith, steps_is step_table zone_table front_table aheadTable c l)
+            omega (arith, steps_is step_table zone_table front_table ahead_table c l)
 
 -- ---- cart c has moved on, and no other has
 

@@ -13,7 +13,7 @@ use Rattle.words.proofs.First.{first_pass}
 use Rattle.moves.specs.System.{System, pos}
 use Rattle.moves.specs.Moves.{Permitted, is_permitted}
 use Rattle.moves.proofs.Moves.{permitted_says}
-use Rattle.routes.specs.Crossing.{Crossing, steps, zone}
+use Rattle.routes.specs.Crossing.{Crossing, steps}
 use Rattle.routes.specs.Moves.{system}
 use Rattle.routes.proofs.Moves.{moves_some}
 use Rattle.times.specs.Running as running
@@ -28,7 +28,7 @@ use Rattle.sheet.specs.Valid.{Valid}
 use Rattle.sheet.specs.declared.Sheet.{Sheet}
 use Rattle.plan.specs.Valid.{ValidOrders}
 use Rattle.plan.specs.declared.Orders.{Orders}
-use Rattle.plan.proofs.Visitors.{step_valid, steps_most}
+use Rattle.plan.proofs.Visitors.{step_valid}
 use Rattle.judge_one_move.specs.inner.Standing.{Standing}
 use Rattle.moving_record.specs.Record.{is_reached}
 use Rattle.moving_record.specs.inner.Tables.{Orderly, TestedAs}

@@ -22,24 +22,24 @@ use Rattle.crossing.proofs.Tables.{step_below, steps_is, zone_is}
 use Rattle.plan_lists.specs.inner.Sets.{Routes, names, who_visits}
 use Rattle.moving_record.specs.inner.Tables.{NonePastOut, zones_left, Orderly}
 
-module _ (step_table zone_table laneTable aheadTable : List ℕ) (orderly : Orderly step_table zone_table laneTable aheadTable) where
+module _ (step_table zone_table lane_table ahead_table : List ℕ) (orderly : Orderly step_table zone_table lane_table ahead_table) where
   abbrev fronts : List ℕ
-  fronts = fronts_by step_table zone_table laneTable
+  fronts = fronts_by step_table zone_table lane_table
 
   abbrev X : Crossing
-  X = crossing_by step_table zone_table fronts aheadTable
+  X = crossing_by step_table zone_table fronts ahead_table
 
   pub tables_routes : Routes step_table zone_table
   tables_routes = record { few = λ c. few c (dec_lt c 16); known = λ c j h. known c j h (dec_lt c 16) }
     where
       few : (c : ℕ) → Dec (c < 16) → get_or step_table c 0 ≤ 8
-      few c (yes l) = omega (arith, orderly.steps_most c, steps_is step_table zone_table fronts aheadTable c l)
+      few c (yes l) = omega (arith, orderly.steps_most c, steps_is step_table zone_table fronts ahead_table c l)
       few c (no n) = omega (arith, get_or-eq_default step_table 0 {n = c} (omega (arith, n, orderly.steps_16)))
 
       known : (c j : ℕ) → j < get_or step_table c 0 → Dec (c < 16) → get_or zone_table (8 * c + j) 0 < 24
       known c j h (yes l) =
-          let inside : j < steps X c = omega (arith, steps_is step_table zone_table fronts aheadTable c l) in
-          omega (arith, orderly.zone_below c j inside, zone_is step_table zone_table fronts aheadTable c l j inside)
+          let inside : j < steps X c = omega (arith, steps_is step_table zone_table fronts ahead_table c l) in
+          omega (arith, orderly.zone_below c j inside, zone_is step_table zone_table fronts ahead_table c l j inside)
       known c j h (no n) = absurd (omega (arith, get_or-eq_default step_table 0 {n = c} (omega (arith, n, orderly.steps_16))))
 
   module _ (at : List ℕ) (range : NonePastOut step_table at) where
@@ -50,7 +50,7 @@ module _ (step_table zone_table laneTable aheadTable : List ℕ) (orderly : Orde
     gone_is c l = at_entry 16 (λ d. get_or at d 0 - 1) c l
 
     gone_few : (c : ℕ) → c < 16 → gone c ≤ steps X c
-    gone_few c l = omega (arith, gone_is c l, range c l, moves_most (get_or step_table c 0), steps_is step_table zone_table fronts aheadTable c l)
+    gone_few c l = omega (arith, gone_is c l, range c l, moves_most (get_or step_table c 0), steps_is step_table zone_table fronts ahead_table c l)
 
     gone_none : (c : ℕ) → ¬ (c < 16) → gone c ≡ 0
     gone_none c n = get_or-eq_default (zones_left at) 0 {n = c} (omega (arith, n, length_entries 16 0 (λ d. get_or at d 0 - 1)))
@@ -65,7 +65,7 @@ module _ (step_table zone_table laneTable aheadTable : List ℕ) (orderly : Orde
         known : (c j : ℕ) → j < gone c → Dec (c < 16) → get_or zone_table (8 * c + j) 0 < 24
         known c j h (yes l) =
             let inside : j < steps X c = omega (arith, gone_few c l) in
-            omega (arith, orderly.zone_below c j inside, zone_is step_table zone_table fronts aheadTable c l j inside)
+            omega (arith, orderly.zone_below c j inside, zone_is step_table zone_table fronts ahead_table c l j inside)
         known c j h (no n) = absurd (omega (arith, gone_none c n))
 
     pub gone_routes : (passed : List ℕ) → passed ≡ zones_left at → Routes passed zone_table
@@ -77,12 +77,12 @@ module _ (step_table zone_table laneTable aheadTable : List ℕ) (orderly : Orde
       λ e.
           let (j, h, there) = says.0 e in
           let inside : j < steps X d = omega (arith, gone_few d l) in
-          record { step = j; is_step = inside; there = zone_is step_table zone_table fronts aheadTable d l j inside ∙ there; past = omega (arith, gone_is d l) },
+          record { step = j; is_step = inside; there = zone_is step_table zone_table fronts ahead_table d l j inside ∙ there; past = omega (arith, gone_is d l) },
       λ left.
           says.1 (
             left.step,
             omega (arith, gone_is d l, left.past),
-            sym (zone_is step_table zone_table fronts aheadTable d l left.step left.is_step)
+            sym (zone_is step_table zone_table fronts ahead_table d l left.step left.is_step)
                 ∙ left.there,
           ),
     )
@@ -101,7 +101,7 @@ module _ (step_table zone_table laneTable aheadTable : List ℕ) (orderly : Orde
         inside l = (
           λ e. let m = has_below 16 (rule z) d (set_fits 16 (λ c. names zone_table (gone c) c z)) e in
               (names_left d z m).0 (sym (has_set 16 (λ c. names zone_table (gone c) c z) d m) ∙ e),
-          λ left. let m = step_below step_table zone_table fronts aheadTable d left.step left.is_step in
+          λ left. let m = step_below step_table zone_table fronts ahead_table d left.step left.is_step in
               has_set 16 (λ c. names zone_table (gone c) c z) d m ∙ (names_left d z m).1 left,
         )
 

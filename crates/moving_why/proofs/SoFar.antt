@@ -75,15 +75,15 @@ module _ (S : System) (at : List ℕ) (to wanted : ℕ → ℕ) (asked : ℕ) wh
       chain_is : entries (n + 1) 0 passed ≡ chain_of S at to asked
       chain_is = rw (add-one n) (ap (λ (k : ℕ). entries (suc k) 0 passed) held_for_lem)
 
-      pub so_far_end : (wantsOut : ℕ → Bool)
-          → record { outcome = done; length = n + 1; cart = set cart n c; zone = set zone n (wanted c); out = bit (wantsOut c) }
-          ≡ chain_by S at to wanted wantsOut asked
-      so_far_end wantsOut =
+      pub so_far_end : (wants_out : ℕ → Bool)
+          → record { outcome = done; length = n + 1; cart = set cart n c; zone = set zone n (wanted c); out = bit (wants_out c) }
+          ≡ chain_by S at to wanted wants_out asked
+      so_far_end wants_out =
           let long : n + 1 ≡ length (chain_of S at to asked) = sym (length_entries (n + 1) 0 passed) ∙ ap length chain_is in
           let carts : set cart n c ≡ sixteen (chain_of S at to asked) = carts_next ∙ sym (sixteen_filled passed (n + 1)) ∙ ap sixteen chain_is in
           let zones : set zone n (wanted c) ≡ sixteen (map wanted (chain_of S at to asked)) =
           zones_next ∙ sym (sixteen_filled (λ x. wanted (passed x)) (n + 1)) ∙ ap sixteen
           (sym (map_entries wanted passed (n + 1) 0) ∙ ap (map wanted) chain_is) in
-          let out : bit (wantsOut c) ≡ bit (wantsOut (passed (held_for S at to asked))) =
-          ap (λ (d : ℕ). bit (wantsOut d)) (so_far.here ∙ ap passed held_for_lem) in
+          let out : bit (wants_out c) ≡ bit (wants_out (passed (held_for S at to asked))) =
+          ap (λ (d : ℕ). bit (wants_out d)) (so_far.here ∙ ap passed held_for_lem) in
           λ i. record { outcome = done; length = long i; cart = carts i; zone = zones i; out = out i }

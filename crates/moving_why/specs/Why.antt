@@ -26,14 +26,14 @@ chain_refused outcome = record { outcome = outcome; length = 0; cart = replicate
 
 -- the chain from cart c by a rule of pointing, each cart with its wanted zone, and whether the last wants the move out
 abbrev pub chain_by : System → List ℕ → (ℕ → ℕ) → (ℕ → ℕ) → (ℕ → Bool) → ℕ → Chain
-chain_by S s to wanted wantsOut c =
+chain_by S s to wanted wants_out c =
     let chain = chain_of S s to c in
     record {
       outcome = done;
       length = length chain;
       cart = sixteen chain;
       zone = sixteen (map wanted chain);
-      out = bit (wantsOut (follow to (held_for S s to c) c));
+      out = bit (wants_out (follow to (held_for S s to c) c));
     }
 
 module _ (sheet : Sheet) (orders : Orders) (lent : Record) (cart : ℕ) where

@@ -5,9 +5,11 @@
 ghost use Rattle.std.specs.Prelude.{◌+◌, ◌≤◌, length};
 
 use judge_text::sheet_length;
-use libc::{STDERR_FILENO, STDIN_FILENO, STDOUT_FILENO};
 use net::net;
 use sheet_text::tell_refusal;
+use std::env::{Env, FillError};
+use std::io;
+use std::io::Read;
 
 // What the program's words ask for.
 #[derive(Clone, Copy)]
@@ -17,20 +19,26 @@ enum Form {
     Unknown,
 }
 
-fn of_words() -> Form {
-    let count = os::arg_count();
-    if count <= 1 {
-        return Form::Text;
-    }
-    if count > 2 {
+fn of_words(rt: &impl Env) -> Form {
+    let mut word = [0u8; 4096];
+    let n = match rt.arg(1, &mut word) {
+        Ok(n) => n,
+        Err(FillError::NotPresent) => return Form::Text,
+        Err(FillError::TooLong) => return Form::Unknown,
+    };
+    if is_given(rt, 2) {
         return Form::Unknown;
     }
-    let mut word = io::buffer();
-    let n = os::arg(1, &mut word);
-    if check::same(&word[..n], b"dot") {
+    if &word[..n] == b"dot".as_slice() {
         return Form::Dot;
     }
     Form::Unknown
+}
+
+// Whether the program was given word i.
+fn is_given(rt: &impl Env, i: usize) -> bool {
+    let mut word = [0u8; 4096];
+    !matches!(rt.arg(i, &mut word), Err(FillError::NotPresent))
 }
 
 // The four numbers of a line; of dashes what comes of them, and nobody asks.
@@ -53,91 +61,91 @@ enum Node {
     Pair,
 }
 
-fn put(text: &[u8]) {
-    io::write_all(STDOUT_FILENO, text);
+fn put(rt: &impl Print, text: &[u8]) -> io::Result<()> {
+    rt.write_all(text)
 }
 
 // A number below 100, in two digits.
-fn put_two(n: u8) {
+fn put_two(rt: &impl Print, n: u8) -> io::Result<()> {
     let digits = [b'0' + n / 10 % 10, b'0' + n % 10];
-    put(&digits);
+    put(rt, &digits)
 }
 
-fn put_both(first: u8, between: &[u8], second: u8) {
-    put_two(first);
-    put(between);
-    put_two(second);
+fn put_both(rt: &impl Print, first: u8, between: &[u8], second: u8) -> io::Result<()> {
+    put_two(rt, first)?;
+    put(rt, between)?;
+    put_two(rt, second)
 }
 
 // A node's name.
-fn put_node(n: Numbers, node: Node) {
+fn put_node(rt: &impl Print, n: Numbers, node: Node) -> io::Result<()> {
     match node {
-        Node::At => put_both(n.cart, b" at ", n.position),
-        Node::Next => put_both(n.cart, b" at ", n.position % 100 + 1),
-        Node::From => put_both(n.cart, b" from ", n.position),
-        Node::Other => put_both(n.other, b" from ", n.its_position),
+        Node::At => put_both(rt, n.cart, b" at ", n.position),
+        Node::Next => put_both(rt, n.cart, b" at ", n.position % 100 + 1),
+        Node::From => put_both(rt, n.cart, b" from ", n.position),
+        Node::Other => put_both(rt, n.other, b" from ", n.its_position),
         Node::Line => {
-            put(b"line ");
-            put_both(n.other, b" ", n.cart);
+            put(rt, b"line ")?;
+            put_both(rt, n.other, b" ", n.cart)
         }
         Node::Pair => {
-            put(b"pair ");
-            put_both(n.other, b" ", n.cart);
-            put(b" at ");
-            put_two(n.position);
+            put(rt, b"pair ")?;
+            put_both(rt, n.other, b" ", n.cart)?;
+            put(rt, b" at ")?;
+            put_two(rt, n.position)
         }
     }
 }
 
 // A circle, with a dot in it where it has a token at first, its name beside it.
-fn show_place(n: Numbers, node: Node, token: bool) {
-    put(b"\"");
-    put_node(n, node);
-    put(b"\" [shape=circle label=\"");
+fn show_place(rt: &impl Print, n: Numbers, node: Node, token: bool) -> io::Result<()> {
+    put(rt, b"\"")?;
+    put_node(rt, n, node)?;
+    put(rt, b"\" [shape=circle label=\"")?;
     if token {
-        put(b"&bull;");
+        put(rt, b"&bull;")?;
     }
-    put(b"\" xlabel=\"");
-    put_node(n, node);
-    put(b"\"]\n");
+    put(rt, b"\" xlabel=\"")?;
+    put_node(rt, n, node)?;
+    put(rt, b"\"]\n")
 }
 
-fn show_transition(n: Numbers) {
-    put(b"\"");
-    put_node(n, Node::From);
-    put(b"\" [shape=box]\n");
+fn show_transition(rt: &impl Print, n: Numbers) -> io::Result<()> {
+    put(rt, b"\"")?;
+    put_node(rt, n, Node::From)?;
+    put(rt, b"\" [shape=box]\n")
 }
 
-fn show_arc(n: Numbers, from: Node, to: Node) {
-    put(b"\"");
-    put_node(n, from);
-    put(b"\" -> \"");
-    put_node(n, to);
-    put(b"\"\n");
+fn show_arc(rt: &impl Print, n: Numbers, from: Node, to: Node) -> io::Result<()> {
+    put(rt, b"\"")?;
+    put_node(rt, n, from)?;
+    put(rt, b"\" -> \"")?;
+    put_node(rt, n, to)?;
+    put(rt, b"\"\n")
 }
 
 // A line of the text, by its word.
-fn show_line(word: &[u8], n: Numbers) {
-    if check::same(word, b"place cart") {
-        show_place(n, Node::At, n.position == 0);
-    } else if check::same(word, b"place line") {
-        show_place(n, Node::Line, false);
-    } else if check::same(word, b"place pair") {
-        show_place(n, Node::Pair, false);
-    } else if check::same(word, b"transition") {
-        show_transition(n);
-    } else if check::same(word, b"arc cart >") {
-        show_arc(n, Node::At, Node::From);
-    } else if check::same(word, b"arc > cart") {
-        show_arc(n, Node::From, Node::Next);
-    } else if check::same(word, b"arc line >") {
-        show_arc(n, Node::Line, Node::From);
-    } else if check::same(word, b"arc > line") {
-        show_arc(n, Node::Other, Node::Line);
-    } else if check::same(word, b"arc pair >") {
-        show_arc(n, Node::Pair, Node::From);
+fn show_line(rt: &impl Print, word: &[u8], n: Numbers) -> io::Result<()> {
+    if word == b"place cart".as_slice() {
+        show_place(rt, n, Node::At, n.position == 0)
+    } else if word == b"place line".as_slice() {
+        show_place(rt, n, Node::Line, false)
+    } else if word == b"place pair".as_slice() {
+        show_place(rt, n, Node::Pair, false)
+    } else if word == b"transition".as_slice() {
+        show_transition(rt, n)
+    } else if word == b"arc cart >".as_slice() {
+        show_arc(rt, n, Node::At, Node::From)
+    } else if word == b"arc > cart".as_slice() {
+        show_arc(rt, n, Node::From, Node::Next)
+    } else if word == b"arc line >".as_slice() {
+        show_arc(rt, n, Node::Line, Node::From)
+    } else if word == b"arc > line".as_slice() {
+        show_arc(rt, n, Node::Other, Node::Line)
+    } else if word == b"arc pair >".as_slice() {
+        show_arc(rt, n, Node::Pair, Node::From)
     } else {
-        show_arc(n, Node::Other, Node::Pair);
+        show_arc(rt, n, Node::Other, Node::Pair)
     }
 }
 
@@ -149,8 +157,8 @@ fn number_at(text: &[u8], at: usize) -> u8
 }
 
 // The lines of the text, of 23 bytes each.
-fn show_dot(text: &[u8]) {
-    put(b"digraph net {\n");
+fn show_dot(rt: &impl Print, text: &[u8]) -> io::Result<()> {
+    put(rt, b"digraph net {\n")?;
     let mut at = 0;
     while 23 <= text.len() - at {
         let numbers = Numbers {
@@ -159,44 +167,41 @@ fn show_dot(text: &[u8]) {
             other: number_at(text, at + 17),
             its_position: number_at(text, at + 20),
         };
-        show_line(&text[at..at + 10], numbers);
+        show_line(rt, &text[at..at + 10], numbers)?;
         at += 23;
     }
-    put(b"}\n");
+    put(rt, b"}\n")
 }
 
 // The text that a room of bytes begins with, as it is or drawn.
-fn show_text(room: &[u8], n: usize, form: Form) {
+fn show_text(rt: &impl Print, room: &[u8], n: usize, form: Form) -> io::Result<()> {
     if room.len() < n {
-        return;
+        return Ok(());
     }
     if let Form::Dot = form {
-        show_dot(&room[..n]);
-        return;
+        return show_dot(rt, &room[..n]);
     }
-    put(&room[..n]);
+    put(rt, &room[..n])
 }
 
 // The net of the sheet and the plan after it.
-fn show_net(input: &[u8], form: Form) {
+fn show_net(rt: &impl Print, errors: &impl Print, input: &[u8], form: Form) -> io::Result<()> {
     let mut room = [0u8; 80891];
     let k = sheet_length(input);
     let run = net(&input[..k], &input[k..], &mut room);
     let outcome = run.outcome;
     if outcome.number != 0 {
-        tell_refusal(STDERR_FILENO, outcome);
-        return;
+        return tell_refusal(errors, outcome);
     }
-    show_text(&room, run.length, form);
+    show_text(rt, &room, run.length, form)
 }
 
-fn main() {
-    let form = of_words();
+fn main(rt: HostRuntime) -> io::Result<()> {
+    let form = of_words(&rt);
     if let Form::Unknown = form {
-        io::write_all(STDERR_FILENO, b"oblakosh: net_main takes no word, or dot\n");
-        return;
+        return eprintln!(rt; "oblakosh: net_main takes no word, or dot");
     }
-    let mut input = [0u8; 2048];
-    let n = io::read_full(STDIN_FILENO, &mut input);
-    show_net(&input[..n], form);
+    let mut input = Vec::new(rt.alloc());
+    rt.reader().take(2048).read_to_end(&mut input)?;
+    show_net(&rt, &rt.stderr(), &input, form)
 }

@@ -4,9 +4,11 @@
 // A sheet of more than 65,536 bytes is cut there: no length field fits it, whole or cut.
 #![tactic(auto)]
 
-use libc::{STDERR_FILENO, STDIN_FILENO, STDOUT_FILENO};
 use planner::Planned;
 use sheet_text::tell_refusal;
+use std::env::{Env, FillError};
+use std::io;
+use std::io::Read;
 
 // What the program's words ask for.
 #[derive(Clone, Copy)]
@@ -18,26 +20,32 @@ enum Wanted {
 }
 
 fn of_word(word: &[u8]) -> Wanted {
-    if check::same(word, b"first") {
+    if word == b"first".as_slice() {
         return Wanted::First;
     }
-    if check::same(word, b"better") {
+    if word == b"better".as_slice() {
         return Wanted::Better;
     }
     Wanted::Unknown
 }
 
-fn of_words() -> Wanted {
-    let count = os::arg_count();
-    if count <= 1 {
-        return Wanted::Removal;
-    }
-    if count > 2 {
+fn of_words(rt: &impl Env) -> Wanted {
+    let mut word = [0u8; 4096];
+    let n = match rt.arg(1, &mut word) {
+        Ok(n) => n,
+        Err(FillError::NotPresent) => return Wanted::Removal,
+        Err(FillError::TooLong) => return Wanted::Unknown,
+    };
+    if is_given(rt, 2) {
         return Wanted::Unknown;
     }
-    let mut word = io::buffer();
-    let n = os::arg(1, &mut word);
     of_word(&word[..n])
+}
+
+// Whether the program was given word i.
+fn is_given(rt: &impl Env, i: usize) -> bool {
+    let mut word = [0u8; 4096];
+    !matches!(rt.arg(i, &mut word), Err(FillError::NotPresent))
 }
 
 // The first n of the bytes; all, where there are not so many.
@@ -45,31 +53,31 @@ fn first_bytes(bytes: &[u8], n: usize) -> &[u8] {
     if n <= bytes.len() { &bytes[..n] } else { bytes }
 }
 
-fn write_planned(planned: Planned, room: &[u8; 156]) {
+fn write_planned(
+    rt: &impl Print,
+    errors: &impl Print,
+    planned: Planned,
+    room: &[u8; 156],
+) -> io::Result<()> {
     let outcome = planned.outcome;
     if outcome.number != 0 {
-        tell_refusal(STDERR_FILENO, outcome);
-        return;
+        return tell_refusal(errors, outcome);
     }
-    io::write_all(STDOUT_FILENO, first_bytes(room, planned.length));
+    rt.write_all(first_bytes(room, planned.length))
 }
 
-fn main() {
-    let mut sheet = io::large_buffer();
+fn main(rt: HostRuntime) -> io::Result<()> {
+    let mut sheet = Vec::new(rt.alloc());
     let mut room = [0u8; 156];
-    let wanted = of_words();
+    let wanted = of_words(&rt);
     if let Wanted::Unknown = wanted {
-        io::write_all(
-            STDERR_FILENO,
-            b"oblakosh: plan_main takes no word, first or better\n",
-        );
-        return;
+        return eprintln!(rt; "oblakosh: plan_main takes no word, first or better");
     }
-    let n = io::read_full(STDIN_FILENO, &mut sheet);
+    rt.reader().take(65536).read_to_end(&mut sheet)?;
     let planned = match wanted {
-        Wanted::First => planner::plan_first(&sheet[..n], &mut room),
-        Wanted::Better => planner::plan_better(&sheet[..n], &mut room),
-        _ => planner::plan(&sheet[..n], &mut room),
+        Wanted::First => planner::plan_first(&sheet, &mut room),
+        Wanted::Better => planner::plan_better(&sheet, &mut room),
+        _ => planner::plan(&sheet, &mut room),
     };
-    write_planned(planned, &room);
+    write_planned(&rt, &rt.stderr(), planned, &room)
 }

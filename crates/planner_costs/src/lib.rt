@@ -109,7 +109,7 @@ pub fn largest_cost(
     ensures { ChosenBelow (tables_of (zone sheet.now) (cross sheet.now) (passing sheet.now) rank.now
         visit.now undecided.now enter.now spare.now) 128 result }
 {
-    // no candidate yet, and a cost below all: mostTakenOff and one more, negative
+    // no candidate yet, and a cost below all: most_taken_off and one more, negative
     let mut best = Choice {
         found: false,
         cost: -37740001,

@@ -11,7 +11,7 @@ use lib.Dec.{ltb}
 use Rattle.sets.specs.inner.Member.{has, Less}
 use Rattle.sets.proofs.Counting.{has_set}
 use Rattle.plan_lists.specs.inner.Sets.{who_visits}
-use Rattle.routes.specs.Crossing.{steps, zone}
+use Rattle.routes.specs.Crossing.{zone}
 use Rattle.sheet_table.specs.inner.Parts as parts
 use Rattle.sheet.specs.Valid.{Valid}
 use Rattle.sheet_filling.specs.inner.Filled.{sheet_in}

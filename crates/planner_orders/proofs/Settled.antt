@@ -9,7 +9,7 @@ use native.Mathlib.Omega.{arith}
 use lib.ListN.{length, get_or, get_or-eq_default}
 use Rattle.words.proofs.Entries.{length_entries}
 use Rattle.words.proofs.Tests.{and_both}
-use Rattle.moves.specs.System.{System, carts, start}
+use Rattle.moves.specs.System.{System, start}
 use Rattle.moves.specs.inner.Runs.{AllComeOut}
 use Rattle.routes.specs.Lists.{is_named}
 use Rattle.routes.specs.inner.Lists.{Named}

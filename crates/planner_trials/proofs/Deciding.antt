@@ -24,7 +24,7 @@ use Rattle.planner_orders.specs.inner.Deciding as tables
 use Rattle.planner_orders.proofs.Added.{undecided_turned}
 use Rattle.planner_trials.specs.inner.Trying.{Told}
 use Rattle.judge_verdict.specs.inner.Verdict.{Runs, Runnable}
-use Rattle.planner_trials.specs.inner.Turns.{order_of, Candidate, Decides, Underway, Decided}
+use Rattle.planner_trials.specs.inner.Turns.{order_of, Candidate, Underway, Decided}
 use Rattle.judge_verdict.specs.declared.Verdict.{Verdict}
 use Rattle.planner_trials.proofs.Told.{step_is, told_sound, run_says, undecided_step}
 

@@ -2,10 +2,11 @@
 // A sheet of more than 65,536 bytes is cut there: no length field fits it, whole or cut.
 #![tactic(auto)]
 
-use libc::STDIN_FILENO;
+use std::io;
+use std::io::Read;
 
-fn main() {
-    let mut sheet = io::large_buffer();
-    let n = io::read_full(STDIN_FILENO, &mut sheet);
-    sheet_text::show_sheet(&sheet[..n]);
+fn main(rt: HostRuntime) -> io::Result<()> {
+    let mut sheet = Vec::new(rt.alloc());
+    rt.reader().take(65536).read_to_end(&mut sheet)?;
+    sheet_text::show_sheet(&rt, &sheet)
 }

@@ -5,7 +5,12 @@
 
 ghost use Rattle.std.specs.Prelude.{◌<◌};
 
-use libc::STDOUT_FILENO;
+use std::alloc::Global;
+use std::env::{Env, FillError};
+use std::io::Read;
+use std::rt::Files;
+use std::str::from_utf8;
+use std::{fs, io};
 
 // What was read of the present line, and how many digits of the sheet and of the plan.
 #[derive(Clone, Copy)]
@@ -29,9 +34,9 @@ fn blank_line(number: u64) -> Line {
     }
 }
 
-fn name(kind: &[u8], number: u64) {
-    sheet_text::put(kind, number);
-    io::write_all(STDOUT_FILENO, b":\n");
+fn name(rt: &impl Print, kind: &[u8], number: u64) -> io::Result<()> {
+    sheet_text::put(rt, kind, number)?;
+    rt.write_all(b":\n")
 }
 
 // The bytes that were read by so many digits.
@@ -41,18 +46,19 @@ fn bytes_read(bytes: &[u8], digits: usize) -> &[u8] {
 }
 
 // Shows what the line holds, if it holds a sheet.
-fn show_line(line: Line, sheet: &[u8], plan: &[u8]) {
+fn show_line(rt: &impl Print, line: Line, sheet: &[u8], plan: &[u8]) -> io::Result<()> {
     if line.is_sheet {
-        name(b"line ", line.number);
+        name(rt, b"line ", line.number)?;
         let s = bytes_read(sheet, line.sheet_digits);
         if line.is_plan {
             let p = bytes_read(plan, line.plan_digits);
-            plan_text::show_plan(s, p);
-            judge_text::show_judged(s, p);
+            plan_text::show_plan(rt, s, p)?;
+            judge_text::show_judged(rt, s, p)?;
         } else {
-            sheet_text::show_sheet(s);
+            sheet_text::show_sheet(rt, s)?;
         }
     }
+    Ok(())
 }
 
 // The value of a hexadecimal digit, and 16 for any other character.
@@ -78,13 +84,19 @@ fn take_digit(digits: usize, d: u8, bytes: &mut [u8]) -> usize
     digits + 1
 }
 
-fn take_character(line: Line, c: u8, sheet: &mut [u8], plan: &mut [u8]) -> Line {
+fn take_character(
+    rt: &impl Print,
+    line: Line,
+    c: u8,
+    sheet: &mut [u8],
+    plan: &mut [u8],
+) -> io::Result<Line> {
     if c == b'\n' {
-        show_line(line, sheet, plan);
-        return blank_line(std::num::wrapping_add_u64(line.number, 1));
+        show_line(rt, line, sheet, plan)?;
+        return Ok(blank_line(line.number.wrapping_add(1)));
     }
     if line.is_comment {
-        return line;
+        return Ok(line);
     }
     let mut taken = line;
     let d = digit(c);
@@ -95,61 +107,95 @@ fn take_character(line: Line, c: u8, sheet: &mut [u8], plan: &mut [u8]) -> Line 
         } else {
             taken.sheet_digits = take_digit(line.sheet_digits, d, sheet);
         }
-        return taken;
+        return Ok(taken);
     }
     taken.is_comment = c == b'#';
     taken.is_sheet = line.is_sheet || c == b'-';
     taken.is_plan = line.is_plan || c == b'|';
-    taken
+    Ok(taken)
 }
 
-fn take_text(line: Line, text: &[u8], sheet: &mut [u8], plan: &mut [u8]) -> Line {
+fn take_text(
+    rt: &impl Print,
+    line: Line,
+    text: &[u8],
+    sheet: &mut [u8],
+    plan: &mut [u8],
+) -> io::Result<Line> {
     let mut taken = line;
     let mut i = 0;
     while i < text.len() {
-        taken = take_character(taken, text[i], sheet, plan);
+        taken = take_character(rt, taken, text[i], sheet, plan)?;
         i += 1;
     }
-    taken
+    Ok(taken)
 }
 
-// A proved loop has to end, and nothing says that a file does: it counts its turns down from a number that no run uses up.
-fn show_file(fd: i32) {
-    let mut text = io::large_buffer();
-    let mut sheet = io::large_buffer();
-    let mut plan = io::large_buffer();
+// A proved loop has to end, and nothing says that a file does: it has more turns than any run uses up.
+fn show_file(rt: &impl Print, file: &mut impl Read) -> io::Result<()> {
+    let mut text = [0u8; 65536];
+    let mut sheet = [0u8; 65536];
+    let mut plan = [0u8; 65536];
     let mut line = blank_line(1);
-    let mut turns = u64::MAX;
-    while turns > 0 {
-        let n = io::read_full(fd, &mut text);
+    for _ in 0..u64::MAX {
+        let n = file.read(&mut text)?;
         if n == 0 {
             break;
         }
-        line = take_text(line, &text[..n], &mut sheet, &mut plan);
-        turns -= 1;
+        line = take_text(rt, line, &text[..n], &mut sheet, &mut plan)?;
     }
-    show_line(line, &sheet, &plan);
+    show_line(rt, line, &sheet, &plan)
+}
+
+// Opens a file by its name, which is text.
+fn opened<R: Files>(rt: &R, path: &[u8]) -> io::Result<R::File> {
+    let Ok(name) = from_utf8(path) else {
+        return Err(io::Error::from(io::ErrorKind::InvalidFilename));
+    };
+    fs::open(rt, name)
+}
+
+// The text of an error, less the system's number of it.
+fn reason(text: &str) -> &str {
+    match text.split_once(" (os error ") {
+        Some((reason, _)) => reason,
+        None => text,
+    }
+}
+
+// Writes a line to standard error: what failed, as the caller names it, a colon and the system's text.
+fn fail(errors: &impl Print, alloc: Global, what: &[u8], error: io::Error) -> io::Result<()> {
+    let text = format!(in alloc; "{error}")?;
+    errors.write_all(what)?;
+    println!(errors; ": {}", reason(&text))
 }
 
 // Shows the file that argument i names.
-fn show_argument(i: usize) {
-    let mut path = io::buffer();
-    let n = os::arg(i, &mut path);
-    let fd = os::open_read(&path[..n]);
-    if fd < 0 {
-        os::fail(&path[..n]);
-        return;
+fn show_argument(
+    rt: &(impl Print + Files),
+    errors: &impl Print,
+    alloc: Global,
+    i: usize,
+    path: &[u8],
+) -> io::Result<()> {
+    match opened(rt, path) {
+        Ok(mut file) => {
+            name(rt, b"file ", i as u64)?;
+            show_file(rt, &mut file)
+        }
+        Err(error) => fail(errors, alloc, path, error),
     }
-    name(b"file ", i as u64);
-    show_file(fd);
-    libc::close(fd);
 }
 
-fn main() {
-    let count = os::arg_count();
-    let mut i = 1;
-    while i < count {
-        show_argument(i);
-        i += 1;
+fn main(rt: HostRuntime) -> io::Result<()> {
+    let mut path = [0u8; 4096];
+    for i in 1..usize::MAX {
+        let n = match rt.arg(i, &mut path) {
+            Ok(n) => n,
+            Err(FillError::NotPresent) => break,
+            Err(FillError::TooLong) => 0,
+        };
+        show_argument(&rt, &rt.stderr(), rt.alloc(), i, &path[..n])?;
     }
+    Ok(())
 }

@@ -3,10 +3,11 @@
 
 use fields::{Field, four_bytes, one_byte, outside};
 use judge_text::{sheet_length, show_wait};
-use libc::{STDERR_FILENO, STDIN_FILENO, STDOUT_FILENO};
 use moving_record::Record;
 use moving_why::{Chain, why};
 use sheet_text::{end_line, put};
+use std::io;
+use std::io::Read;
 use words::least;
 
 // The sixteen positions, and the count of moves in 4 bytes after them; what is not there is 0.
@@ -25,28 +26,28 @@ fn record_in(bytes: &[u8]) -> Record {
 }
 
 // The last cart of a chain: the move that it may make now.
-fn show_move(cart: u8, zone: u8, out: u8) {
-    put(b"cart ", cart as u64);
+fn show_move(rt: &impl Print, cart: u8, zone: u8, out: u8) -> io::Result<()> {
+    put(rt, b"cart ", cart as u64)?;
     if out != 0 {
-        io::write_all(STDOUT_FILENO, b" may move out\n");
-        return;
+        return rt.write_all(b" may move out\n");
     }
-    put(b" may move into zone ", zone as u64);
-    end_line();
+    put(rt, b" may move into zone ", zone as u64)?;
+    end_line(rt)
 }
 
 // A line for each cart of the chain: it waits for the next, or may move.
-fn show_chain(chain: Chain) {
+fn show_chain(rt: &impl Print, chain: Chain) -> io::Result<()> {
     let n = least(chain.length, 16);
     let mut k = 0;
     while k < n {
         if k + 1 < n {
-            show_wait(chain.cart[k], chain.zone[k], chain.cart[k + 1]);
+            show_wait(rt, chain.cart[k], chain.zone[k], chain.cart[k + 1])?;
         } else {
-            show_move(chain.cart[k], chain.zone[k], chain.out);
+            show_move(rt, chain.cart[k], chain.zone[k], chain.out)?;
         }
         k += 1;
     }
+    Ok(())
 }
 
 // The cart after them; 0 where it is not there.
@@ -58,34 +59,37 @@ fn cart_in(bytes: &[u8]) -> usize {
 }
 
 // Why a cart does not move: the chain, or the refusal.
-fn show_why(s: &[u8], p: &[u8], lent: Record, cart: usize) {
+fn show_why(rt: &impl Print, s: &[u8], p: &[u8], lent: Record, cart: usize) -> io::Result<()> {
     let chain = why(s, p, lent, cart);
     let outcome = chain.outcome;
     if outcome.number != 0 {
-        sheet_text::show_refusal(outcome);
-        return;
+        return sheet_text::show_refusal(rt, outcome);
     }
-    show_chain(chain);
+    show_chain(rt, chain)
 }
 
 // The last 21 bytes are the record and the cart; the sheet and the plan stand before them.
-fn show_asked(input: &[u8]) {
+fn show_asked(rt: &(impl Print + Eprint), input: &[u8]) -> io::Result<()> {
     if input.len() < 21 {
-        io::write_all(
-            STDERR_FILENO,
-            b"oblakosh: why_main takes a sheet, a plan, and 21 bytes of record and cart\n",
+        return eprintln!(rt;
+            "oblakosh: why_main takes a sheet, a plan, and 21 bytes of record and cart"
         );
-        return;
     }
     let n = input.len() - 21;
     let asked = &input[n..];
     let bytes = &input[..n];
     let k = sheet_length(bytes);
-    show_why(&bytes[..k], &bytes[k..], record_in(asked), cart_in(asked));
+    show_why(
+        rt,
+        &bytes[..k],
+        &bytes[k..],
+        record_in(asked),
+        cart_in(asked),
+    )
 }
 
-fn main() {
-    let mut input = [0u8; 2048];
-    let n = io::read_full(STDIN_FILENO, &mut input);
-    show_asked(&input[..n]);
+fn main(rt: HostRuntime) -> io::Result<()> {
+    let mut input = Vec::new(rt.alloc());
+    rt.reader().take(2048).read_to_end(&mut input)?;
+    show_asked(&rt, &input)
 }

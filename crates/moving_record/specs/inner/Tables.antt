@@ -45,9 +45,9 @@ AllInLine front at = (c : ℕ) → c < 16 → 0 < get_or at c 0 → FrontGone (f
 abbrev pub not_reached : Tested
 not_reached = record { reached = false; left = replicate 24 0 }
 
-module _ (step_table zone_table laneTable aheadTable : List ℕ) where
+module _ (step_table zone_table lane_table ahead_table : List ℕ) where
   abbrev X : Crossing
-  X = crossing_by step_table zone_table (fronts_by step_table zone_table laneTable) aheadTable
+  X = crossing_by step_table zone_table (fronts_by step_table zone_table lane_table) ahead_table
 
   -- what the test asks of tables
   pub record Orderly : Type 0 where

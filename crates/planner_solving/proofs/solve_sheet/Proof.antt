@@ -6,7 +6,7 @@ use Rattle.planner_solving.proofs.solve_sheet.Statement.{statement}
 use Rattle.planner_solving.proofs.solve_sheet.Tie as tie
 
 ranks-requires : tie.Need-ranks-requires
-ranks-requires c κs = c.requires.0.1.carts-most
+ranks-requires c κs = c.requires.0.1.carts_most
 
 visit-places-requires : tie.Need-visit-places-requires
 visit-places-requires c κs = sheet_routed _ _ _ c.before.requires.0.1

@@ -12,10 +12,8 @@ pub judge_orders-requires : goal.judge_orders-requires
 judge_orders-requires c = record {
   zones = _;
   carts = _;
-  valid = valid_sheet _ _ _ _ _
-      c.read_tables-read.ensures c.if-outcome-ne0.false;
-  valid_orders = valid_orders _ _ _ _ _ c.read_tables-read.ensures
-      c.if-outcome-ne0.false;
+  valid = valid_sheet _ _ _ _ _ c.read_tables-read.ensures c.if-outcome-ne0.false;
+  valid_orders = valid_orders _ _ _ _ _ c.read_tables-read.ensures c.if-outcome-ne0.false;
 }
 
 pub returns : goal.returns

@@ -17,10 +17,8 @@ pub loop-x-preserved : goal.loop-x-preserved
 loop-x-preserved c = (
   omega arith,
   simp length-set c.loop-x.invariant.1,
-  ap (λ (words : List _). set words c.loop-x.x (get_or c.args.enter.now c.loop-x.x
-      0)) c.loop-x.invariant.2
-      ∙ rw (add-one c.loop-x.x) (copied_next c.args.enter.now
-      c.args.words.now c.loop-x.x (omega (arith, c.requires.0))
+  ap (λ (words : List _). set words c.loop-x.x (get_or c.args.enter.now c.loop-x.x 0)) c.loop-x.invariant.2
+      ∙ rw (add-one c.loop-x.x) (copied_next c.args.enter.now c.args.words.now c.loop-x.x (omega (arith, c.requires.0))
       (omega (arith, c.requires.1))),
 )
 

@@ -13,11 +13,7 @@ loop-moved-init c = record {
 }
 
 pub turn_of-turn-requires : goal.turn_of-turn-requires
-turn_of-turn-requires c = (
-  c.loop-moved.invariant.have_moved,
-  c.loop-moved.invariant.inside_is,
-  c.requires.1,
-)
+turn_of-turn-requires c = (c.loop-moved.invariant.have_moved, c.loop-moved.invariant.inside_is, c.requires.1)
 
 pub loop-moved-smaller : goal.loop-moved-smaller
 loop-moved-smaller c = settling_less _ _ _ _ _ _ c.loop-moved-test.true c.turn_of-turn.ensures

@@ -8,12 +8,7 @@ pub overflow_mul-c : goal.overflow_mul-c
 overflow_mul-c c = omega (arith, c.requires.cart_16)
 
 pub overflow_add-c : goal.overflow_add-c
-overflow_add-c c = omega (
-  arith,
-  c.requires.cart_16,
-  c.wide-from.ensures.0,
-  from_few _ _ _ _ _ c.requires,
-)
+overflow_add-c c = omega (arith, c.requires.cart_16, c.wide-from.ensures.0, from_few _ _ _ _ _ c.requires)
 
 pub overflow_sub-c : goal.overflow_sub-c
 overflow_sub-c c = omega (arith, c.if-from-gt0.true)
@@ -43,38 +38,28 @@ pub overflow_add-p : goal.overflow_add-p
 overflow_add-p c = omega (arith, c.wide-from.ensures.0, from_few _ _ _ _ _ c.requires)
 
 pub loop-p-init : goal.loop-p-init
-loop-p-init c = rw c.wide-from.ensures.0
-    (elim c.if-from-gt0.branch [
-      | then-from-gt0 w ↦ rw w.left-is
-          (going_over _ _ _ _ _ c.requires (omega (arith, c.wide-from.ensures.0, w.if-from-gt0.true)) _
-          (rw (w.zone.ensures, c.wide-from.ensures.0) at w.join.ensures))
-      | else-from-gt0 w ↦ rw w.left-is (going_in _ _ _ _ _ c.requires (omega (arith, c.wide-from.ensures.0, w.if-from-gt0.false)))
-    ])
+loop-p-init c = rw c.wide-from.ensures.0 (elim c.if-from-gt0.branch [
+  | then-from-gt0 w ↦ rw w.left-is
+      (going_over _ _ _ _ _ c.requires (omega (arith, c.wide-from.ensures.0, w.if-from-gt0.true)) _
+      (rw (w.zone.ensures, c.wide-from.ensures.0) at w.join.ensures))
+  | else-from-gt0 w ↦ rw w.left-is (going_in _ _ _ _ _ c.requires (omega (arith, c.wide-from.ensures.0, w.if-from-gt0.false)))
+])
 
 pub overflow_mul-x : goal.overflow_mul-x
 overflow_mul-x c = omega (arith, c.requires.cart_16)
 
 pub overflow_add-x : goal.overflow_add-x
-overflow_add-x c = omega (
-  arith,
-  c.requires.cart_16,
-  c.loop-p.invariant.not_past,
-  steps_few _ _ _ _ _ c.requires,
-)
+overflow_add-x c = omega (arith, c.requires.cart_16, c.loop-p.invariant.not_past, steps_few _ _ _ _ _ c.requires)
 
 pub may_enter-requires : goal.may_enter-requires
 may_enter-requires c = x_asked _ _ _ _ _ _ c.loop-p.invariant (rw c.steps-k.ensures at c.loop-p-test.true)
 
 pub overflow_cast-result : goal.overflow_cast-result
-overflow_cast-result c = omega (
-  arith,
-  c.loop-p.invariant.not_past,
-  steps_few _ _ _ _ _ c.requires,
-)
+overflow_cast-result c = omega (arith, c.loop-p.invariant.not_past, steps_few _ _ _ _ _ c.requires)
 
 pub returns-then-not-may_enter : goal.returns-then-not-may_enter
 returns-then-not-may_enter c = gone_held _ _ _ _ _ _ c.loop-p.invariant (rw c.steps-k.ensures at
-    c.loop-p-test.true) _ c.may_enter.ensures (c.if-not-may_enter.true)
+    c.loop-p-test.true) _ c.may_enter.ensures c.if-not-may_enter.true
 
 pub overflow_sub-x : goal.overflow_sub-x
 overflow_sub-x c = omega (arith, c.loop-p.invariant.some)
@@ -90,30 +75,20 @@ join-requires-in-loop-p c = (
 )
 
 pub overflow_add-p-in-loop-p : goal.overflow_add-p-in-loop-p
-overflow_add-p-in-loop-p c = omega (
-  arith,
-  c.loop-p.invariant.not_past,
-  steps_few _ _ _ _ _ c.requires,
-)
+overflow_add-p-in-loop-p c = omega (arith, c.loop-p.invariant.not_past, steps_few _ _ _ _ _ c.requires)
 
 pub loop-p-smaller : goal.loop-p-smaller
 loop-p-smaller c = omega (arith, c.loop-p-test.true)
 
 pub loop-p-preserved : goal.loop-p-preserved
-loop-p-preserved c = going_next _ _ _ _ _ _ c.loop-p.invariant
-    (rw c.steps-k.ensures at
-    c.loop-p-test.true) _ c.may_enter.ensures (c.if-not-may_enter.false) _ (rw c.zone-in-loop-p.ensures at c.join-in-loop-p.ensures)
+loop-p-preserved c = going_next _ _ _ _ _ _ c.loop-p.invariant (rw c.steps-k.ensures at
+    c.loop-p-test.true) _ c.may_enter.ensures c.if-not-may_enter.false _ (rw c.zone-in-loop-p.ensures at c.join-in-loop-p.ensures)
 
 pub overflow_mul-c-2 : goal.overflow_mul-c-2
 overflow_mul-c-2 c = omega (arith, c.requires.cart_16)
 
 pub overflow_add-c-2 : goal.overflow_add-c-2
-overflow_add-c-2 c = omega (
-  arith,
-  c.requires.cart_16,
-  c.steps-k.ensures,
-  steps_few _ _ _ _ _ c.requires,
-)
+overflow_add-c-2 c = omega (arith, c.requires.cart_16, c.steps-k.ensures, steps_few _ _ _ _ _ c.requires)
 
 pub overflow_sub-c-2 : goal.overflow_sub-c-2
 overflow_sub-c-2 c = omega (arith, c.loop-p.invariant.some, c.loop-p.invariant.not_past, c.steps-k.ensures)
@@ -131,22 +106,11 @@ join-requires-2 c = (
 )
 
 pub overflow_add-result : goal.overflow_add-result
-overflow_add-result c = omega (
-  arith,
-  c.steps-k.ensures,
-  steps_few _ _ _ _ _ c.requires,
-)
+overflow_add-result c = omega (arith, c.steps-k.ensures, steps_few _ _ _ _ _ c.requires)
 
 pub overflow_cast-result-2 : goal.overflow_cast-result-2
-overflow_cast-result-2 c = omega (
-  arith,
-  c.steps-k.ensures,
-  steps_few _ _ _ _ _ c.requires,
-)
+overflow_cast-result-2 c = omega (arith, c.steps-k.ensures, steps_few _ _ _ _ _ c.requires)
 
 pub returns : goal.returns
 returns c = rw c.steps-k.ensures (gone_out _ _ _ _ _ _ c.loop-p.invariant
-    (rw c.steps-k.ensures at c.loop-p-test.false) _ (rw (
-      c.zone-2.ensures,
-      c.steps-k.ensures,
-    ) at c.join-2.ensures))
+    (rw c.steps-k.ensures at c.loop-p-test.false) _ (rw (c.zone-2.ensures, c.steps-k.ensures) at c.join-2.ensures))

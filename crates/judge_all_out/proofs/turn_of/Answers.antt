@@ -18,8 +18,7 @@ may_go_in-requires c = (
 
 pub go_on-to-requires : goal.go_on-to-requires
 go_on-to-requires c = stands_free _ _ _ _ c.loop-turn.invariant.have_moved _
-    c.lowest-c.ensures.0 _ c.may_go_in.ensures (turning_wants _ _ _ _ _ _
-    _ c.loop-turn.invariant _ _
+    c.lowest-c.ensures.0 _ c.may_go_in.ensures (turning_wants _ _ _ _ _ _ _ c.loop-turn.invariant _ _
     c.lowest-c.ensures.1 c.rest-turn.ensures _ refl)
     c.if-may_go_in.true
 
@@ -27,30 +26,19 @@ pub loop-turn-smaller-then-steps-wide : goal.loop-turn-smaller-then-steps-wide
 loop-turn-smaller-then-steps-wide c = c.rest-turn.ensures.smaller
 
 pub loop-turn-preserved-then-steps-wide : goal.loop-turn-preserved-then-steps-wide
-loop-turn-preserved-then-steps-wide c = turning_out _ _ _ _ _ _ _
-    c.loop-turn.invariant _ _
-    c.lowest-c.ensures.1
-    c.rest-turn.ensures _ _
-    c.go_on-to.ensures (in_table _ _ _ _
-    c.loop-turn.invariant.have_moved _
-    c.lowest-c.ensures.0) _ _ (steps_is _ _ _ _ _
-    c.lowest-c.ensures.0)
+loop-turn-preserved-then-steps-wide c = turning_out _ _ _ _ _ _ _ c.loop-turn.invariant _ _ c.lowest-c.ensures.1
+    c.rest-turn.ensures _ _ c.go_on-to.ensures (in_table _ _ _ _ c.loop-turn.invariant.have_moved _
+    c.lowest-c.ensures.0) _ _ (steps_is _ _ _ _ _ c.lowest-c.ensures.0)
     (rw (c.steps.ensures, c.wide.ensures.0) at c.if-steps-wide.true) c.without-still.ensures
 
 pub loop-turn-smaller-else-steps-wide : goal.loop-turn-smaller-else-steps-wide
 loop-turn-smaller-else-steps-wide c = c.rest-turn.ensures.smaller
 
 pub loop-turn-preserved-else-steps-wide : goal.loop-turn-preserved-else-steps-wide
-loop-turn-preserved-else-steps-wide c = turning_stays _ _ _ _ _ _ _
-    c.loop-turn.invariant _ _
-    c.lowest-c.ensures.1
-    c.rest-turn.ensures _ _ c.go_on-to.ensures
-    (in_table _ _ _ _ c.loop-turn.invariant.have_moved _
+loop-turn-preserved-else-steps-wide c = turning_stays _ _ _ _ _ _ _ c.loop-turn.invariant _ _ c.lowest-c.ensures.1
+    c.rest-turn.ensures _ _ c.go_on-to.ensures (in_table _ _ _ _ c.loop-turn.invariant.have_moved _
     c.lowest-c.ensures.0) _ (steps_is _ _ _ _ _
-    c.lowest-c.ensures.0) (rw (
-      c.steps.ensures,
-      c.wide.ensures.0,
-    ) at c.if-steps-wide.false)
+    c.lowest-c.ensures.0) (rw (c.steps.ensures, c.wide.ensures.0) at c.if-steps-wide.false)
 
 pub loop-turn-smaller : goal.loop-turn-smaller
 loop-turn-smaller c = c.rest-turn.ensures.smaller
@@ -58,8 +46,7 @@ loop-turn-smaller c = c.rest-turn.ensures.smaller
 pub loop-turn-preserved : goal.loop-turn-preserved
 loop-turn-preserved c = turning_held _ _ _ _ _ _ _ c.loop-turn.invariant _ _
     c.lowest-c.ensures.1 c.rest-turn.ensures (stands_held _ _ _ _
-    c.loop-turn.invariant.have_moved _ c.lowest-c.ensures.0 _
-    c.may_go_in.ensures c.if-may_go_in.false)
+    c.loop-turn.invariant.have_moved _ c.lowest-c.ensures.0 _ c.may_go_in.ensures c.if-may_go_in.false)
 
 pub returns : goal.returns
 returns c = turning_end _ _ _ _ _ _ _ c.loop-turn.invariant c.loop-turn-test.false

@@ -9,8 +9,7 @@ loop-l-init c = (omega arith, foremost_start c.args.on.now)
 pub loop-l-preserved : goal.loop-l-preserved
 loop-l-preserved c = (
   omega arith,
-  foremost_turn c.args.on.now _ _ _ _
-      c.loop-l.invariant.1 c.first.ensures c.joined-set.ensures,
+  foremost_turn c.args.on.now _ _ _ _ c.loop-l.invariant.1 c.first.ensures c.joined-set.ensures,
 )
 
 pub returns : goal.returns

@@ -7,5 +7,4 @@ pub returns-then-lower-eq0 : goal.returns-then-lower-eq0
 returns-then-lower-eq0 c = none_before _ _ _ c.below-lower.ensures c.args.enter.now c.if-lower-eq0.true
 
 pub returns : goal.returns
-returns c = some_before _ _ _ c.below-lower.ensures c.args.enter.now _ _
-    c.highest.ensures.1 refl
+returns c = some_before _ _ _ c.below-lower.ensures c.args.enter.now _ _ c.highest.ensures.1 refl

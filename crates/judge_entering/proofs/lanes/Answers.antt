@@ -22,36 +22,16 @@ pub bounds-lanes-l-in-loop-c : goal.bounds-lanes-l-in-loop-c
 bounds-lanes-l-in-loop-c c = omega (arith, c.lane-l.ensures, c.requires c.loop-c.c)
 
 pub offset_bounds-latest-l : goal.offset_bounds-latest-l
-offset_bounds-latest-l c = omega (
-  arith,
-  c.lane-l.ensures,
-  c.requires
-      c.loop-c.c,
-)
+offset_bounds-latest-l c = omega (arith, c.lane-l.ensures, c.requires c.loop-c.c)
 
 pub bounds-latest-l : goal.bounds-latest-l
-bounds-latest-l c = omega (
-  arith,
-  c.lane-l.ensures,
-  c.requires
-      c.loop-c.c,
-)
+bounds-latest-l c = omega (arith, c.lane-l.ensures, c.requires c.loop-c.c)
 
 pub offset_bounds-latest-l-then-steps-gt0 : goal.offset_bounds-latest-l-then-steps-gt0
-offset_bounds-latest-l-then-steps-gt0 c = omega (
-  arith,
-  c.lane-l.ensures,
-  c.requires
-      c.loop-c.c,
-)
+offset_bounds-latest-l-then-steps-gt0 c = omega (arith, c.lane-l.ensures, c.requires c.loop-c.c)
 
 pub bounds-latest-l-then-steps-gt0 : goal.bounds-latest-l-then-steps-gt0
-bounds-latest-l-then-steps-gt0 c = omega (
-  arith,
-  c.lane-l.ensures,
-  c.requires
-      c.loop-c.c,
-)
+bounds-latest-l-then-steps-gt0 c = omega (arith, c.lane-l.ensures, c.requires c.loop-c.c)
 
 pub loop-c-preserved : goal.loop-c-preserved
 loop-c-preserved c = let inside : c.lane-l.result < 16 = omega (arith, c.lane-l.ensures, c.requires c.loop-c.c) in (

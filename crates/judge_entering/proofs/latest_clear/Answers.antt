@@ -20,12 +20,7 @@ pub bounds-leave-z : goal.bounds-leave-z
 bounds-leave-z c = omega (arith, c.requires.0, c.lowest-d.ensures.0)
 
 pub overflow_add-leave : goal.overflow_add-leave
-overflow_add-leave c = omega (
-  arith,
-  c.requires.1,
-  c.requires.2
-      (16 * c.args.z + c.lowest-d.result),
-)
+overflow_add-leave c = omega (arith, c.requires.1, c.requires.2 (16 * c.args.z + c.lowest-d.result))
 
 pub loop-others-smaller : goal.loop-others-smaller
 loop-others-smaller c = c.rest-others.ensures.smaller

@@ -20,8 +20,7 @@ pub offset_bounds-on-l-then-steps-gt0 : goal.offset_bounds-on-l-then-steps-gt0
 offset_bounds-on-l-then-steps-gt0 c = omega (arith, c.lane-l.ensures, c.requires c.loop-c.c)
 
 pub bounds-on-l-then-steps-gt0 : goal.bounds-on-l-then-steps-gt0
-bounds-on-l-then-steps-gt0 c = omega
-    (arith, c.lane-l.ensures, c.requires c.loop-c.c)
+bounds-on-l-then-steps-gt0 c = omega (arith, c.lane-l.ensures, c.requires c.loop-c.c)
 
 pub loop-c-preserved : goal.loop-c-preserved
 loop-c-preserved c = (

@@ -11,8 +11,7 @@ last_leaving-requires c = (c.requires, c.loop-c-test.true)
 pub loop-c-preserved : goal.loop-c-preserved
 loop-c-preserved c = (
   omega (arith, c.loop-c-test.true),
-  largest_next _ _ _ _ _ c.loop-c.invariant.1
-      c.last_leaving.ensures c.later-time.ensures,
+  largest_next _ _ _ _ _ c.loop-c.invariant.1 c.last_leaving.ensures c.later-time.ensures,
 )
 
 pub returns : goal.returns

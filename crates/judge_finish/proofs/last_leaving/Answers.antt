@@ -20,26 +20,15 @@ pub bounds-enter-x : goal.bounds-enter-x
 bounds-enter-x c = omega (arith, c.requires.0.steps_most _ c.requires.1, c.steps-k.ensures, c.if-k-eq0.false)
 
 pub passing-requires : goal.passing-requires
-passing-requires c = omega (
-  arith,
-  c.requires.0.steps_most _ c.requires.1,
-  c.steps-k.ensures,
-  c.if-k-eq0.false,
-)
+passing-requires c = omega (arith, c.requires.0.steps_most _ c.requires.1, c.steps-k.ensures, c.if-k-eq0.false)
 
 pub overflow_add-result : goal.overflow_add-result
 overflow_add-result c = omega (
   arith,
   c.passing.ensures,
-  c.requires.0.passing_most
-      (8 * c.args.c + (c.steps-k.result - 1)),
+  c.requires.0.passing_most (8 * c.args.c + (c.steps-k.result - 1)),
   c.requires.0.enter_most (8 * c.args.c + (c.steps-k.result - 1)),
 )
 
 pub returns : goal.returns
-returns c = rw (
-  c.passing.ensures,
-  c.steps-k.ensures,
-  ne_eqb _ _
-      (rw c.steps-k.ensures at c.if-k-eq0.false),
-)
+returns c = rw (c.passing.ensures, c.steps-k.ensures, ne_eqb _ _ (rw c.steps-k.ensures at c.if-k-eq0.false))

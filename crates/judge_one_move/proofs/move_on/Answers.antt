@@ -8,12 +8,7 @@ overflow_sub-time c = latest_past _ _ _ _ _ c.enter_zone-time.ensures.0
 pub returns : goal.returns
 returns c = record {
   time = c.enter_zone-time.result;
-  time_is = rw (
-    c.passing.ensures,
-    c.travel-travel.ensures,
-  ) at
-      c.enter_zone-time.ensures.0;
+  time_is = rw (c.passing.ensures, c.travel-travel.ensures) at c.enter_zone-time.ensures.0;
   entered_is = c.enter_zone-time.ensures.1;
-  zone_left = rw (c.zone.ensures, c.travel-travel.ensures) at
-      c.leave_zone.ensures;
+  zone_left = rw (c.zone.ensures, c.travel-travel.ensures) at c.leave_zone.ensures;
 }

@@ -27,10 +27,8 @@ has-requires c = c.requires.1.cart _ c.loop-k-test.true
 
 pub returns-then-not-has : goal.returns-then-not-has
 returns-then-not-has c = (
-  sym (c.loop-k.invariant.1 ∙ first_here _ _ _ _ c.loop-k-test.true
-      (ap not (sym c.has.ensures ∙ c.if-not-has.true))),
-  c.requires.1.cart _
-      c.loop-k-test.true,
+  sym (c.loop-k.invariant.1 ∙ first_here _ _ _ _ c.loop-k-test.true (ap not (sym c.has.ensures ∙ c.if-not-has.true))),
+  c.requires.1.cart _ c.loop-k-test.true,
 )
 
 pub loop-k-preserved : goal.loop-k-preserved

@@ -18,8 +18,7 @@ overflow_cast-d c = omega (arith, c.requires.1 c.loop-k.d)
 pub loop-k-preserved : goal.loop-k-preserved
 loop-k-preserved c = (
   omega arith,
-  rw (add-one c.loop-k.k) (ap (by_table c.args.to.now)
-      c.loop-k.invariant.1),
+  rw (add-one c.loop-k.k) (ap (by_table c.args.to.now) c.loop-k.invariant.1),
   c.requires.1 c.loop-k.d,
 )
 

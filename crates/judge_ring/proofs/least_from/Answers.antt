@@ -15,17 +15,14 @@ overflow_cast-d c = omega (arith, c.requires.1 c.loop-k.d)
 pub loop-k-preserved : goal.loop-k-preserved
 loop-k-preserved c = (
   omega (arith, c.loop-k-test.true),
-  rw c.least-least.ensures
-      (c.loop-k.invariant.1 ∙ least_turn _ 16 c.loop-k.k _ _ c.loop-k-test.true
+  rw c.least-least.ensures (c.loop-k.invariant.1 ∙ least_turn _ 16 c.loop-k.k _ _ c.loop-k-test.true
       c.loop-k.invariant.2),
   omega (arith, c.least-least.ensures),
-  c.requires.1
-      c.loop-k.d,
+  c.requires.1 c.loop-k.d,
 )
 
 pub returns : goal.returns
 returns c = (
   sym (c.loop-k.invariant.1 ∙ least_end _ 16 c.loop-k.k _ _ c.loop-k-test.false c.loop-k.invariant.2),
-  omega
-      (arith, c.loop-k.invariant.2, c.loop-k.invariant.3),
+  omega (arith, c.loop-k.invariant.2, c.loop-k.invariant.3),
 )

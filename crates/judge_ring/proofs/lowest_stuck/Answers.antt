@@ -22,8 +22,7 @@ returns-then-not_out c = record {
 pub loop-c-preserved : goal.loop-c-preserved
 loop-c-preserved c = (
   omega (arith, c.loop-c-test.true),
-  passed_next (parts.steps c.args.sheet.now)
-      c.args.at.now _ c.loop-c.invariant.1
+  passed_next (parts.steps c.args.sheet.now) c.args.at.now _ c.loop-c.invariant.1
       (λ h. false≢true (sym c.if-not_out.false ∙ c.not_out.ensures.1 h)),
 )
 

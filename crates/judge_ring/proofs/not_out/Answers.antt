@@ -10,5 +10,4 @@ pub returns-then-k-eq0 : goal.returns-then-k-eq0
 returns-then-k-eq0 c = (λ e. absurd (false≢true e), λ h. absurd (omega (arith, moves_none _ (sym c.steps-k.ensures ∙ c.if-k-eq0.true))))
 
 pub returns : goal.returns
-returns c = rw (c.wide.ensures.0, c.steps-k.ensures)
-    (steps_left _ _ (rw c.steps-k.ensures at c.if-k-eq0.false))
+returns c = rw (c.wide.ensures.0, c.steps-k.ensures) (steps_left _ _ (rw c.steps-k.ensures at c.if-k-eq0.false))

@@ -12,10 +12,8 @@ points_to-requires c = (c.requires, c.loop-c-test.true)
 pub loop-c-preserved : goal.loop-c-preserved
 loop-c-preserved c = (
   omega (arith, c.loop-c-test.true),
-  table_next 16 _ _ _ _ c.loop-c-test.true
-      c.points_to.ensures.0 c.loop-c.invariant.1,
-  below_next _ 16 _ c.loop-c.invariant.2
-      (rw c.points_to.ensures.0 at c.points_to.ensures.1),
+  table_next 16 _ _ _ _ c.loop-c-test.true c.points_to.ensures.0 c.loop-c.invariant.1,
+  below_next _ 16 _ c.loop-c.invariant.2 (rw c.points_to.ensures.0 at c.points_to.ensures.1),
 )
 
 pub returns : goal.returns

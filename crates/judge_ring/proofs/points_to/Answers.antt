@@ -40,8 +40,7 @@ pub returns : goal.returns
 returns c = (
   rw (
     sym (c.lane_holds.ensures _ [] c.requires.0.lanes_are) ∙ c.if-lane_holds.false,
-    ←
-        c.wanted_zone.ensures,
+    ← c.wanted_zone.ensures,
   ) c.first_not_left.ensures.0,
   c.first_not_left.ensures.1,
 )

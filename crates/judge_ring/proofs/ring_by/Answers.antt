@@ -29,9 +29,7 @@ overflow_cast-cart-in-loop-d c = omega (arith, c.loop-d.invariant.next_cart)
 pub bounds-cart-n : goal.bounds-cart-n
 bounds-cart-n c = omega (
   arith,
-  so_far_few _ _ c.requires.1 _
-      c.requires.0 _ (first_is c.args.to.now
-      c.args.c _ _ c.follow_on.ensures.0
+  so_far_few _ _ c.requires.1 _ c.requires.0 _ (first_is c.args.to.now c.args.c _ _ c.follow_on.ensures.0
       c.least_from-first.ensures.0) _ _ _ _ c.loop-d.invariant c.loop-d-test.true,
 )
 
@@ -41,9 +39,7 @@ bounds-wanted-d c = omega (arith, c.loop-d.invariant.next_cart)
 pub bounds-zone-n : goal.bounds-zone-n
 bounds-zone-n c = omega (
   arith,
-  so_far_few _ _ c.requires.1 _
-      c.requires.0 _ (first_is
-      c.args.to.now c.args.c _
+  so_far_few _ _ c.requires.1 _ c.requires.0 _ (first_is c.args.to.now c.args.c _
       _ c.follow_on.ensures.0 c.least_from-first.ensures.0)
       _ _ _ _ c.loop-d.invariant c.loop-d-test.true,
 )
@@ -51,9 +47,7 @@ bounds-zone-n c = omega (
 pub overflow_add-n : goal.overflow_add-n
 overflow_add-n c = omega (
   arith,
-  so_far_few _ _ c.requires.1 _
-      c.requires.0 _ (first_is
-      c.args.to.now c.args.c _
+  so_far_few _ _ c.requires.1 _ c.requires.0 _ (first_is c.args.to.now c.args.c _
       _ c.follow_on.ensures.0 c.least_from-first.ensures.0)
       _ _ _ _ c.loop-d.invariant c.loop-d-test.true,
 )
@@ -67,26 +61,17 @@ overflow_cast-d-in-loop-d c = omega (arith, c.requires.1 c.loop-d.d)
 pub loop-d-smaller : goal.loop-d-smaller
 loop-d-smaller c = omega (
   arith,
-  so_far_few _ _ c.requires.1 _
-      c.requires.0 _
-      (first_is c.args.to.now
-      c.args.c _ _
-      c.follow_on.ensures.0
+  so_far_few _ _ c.requires.1 _ c.requires.0 _ (first_is c.args.to.now c.args.c _ _ c.follow_on.ensures.0
       c.least_from-first.ensures.0) _ _ _ _ c.loop-d.invariant
       c.loop-d-test.true,
 )
 
 pub loop-d-preserved : goal.loop-d-preserved
-loop-d-preserved c = so_far_next _ _ c.requires.1 _
-    c.requires.0 _
-    (first_is c.args.to.now
-    c.args.c _ _
-    c.follow_on.ensures.0
-    c.least_from-first.ensures.0) _ _ _ _ c.loop-d.invariant
+loop-d-preserved c = so_far_next _ _ c.requires.1 _ c.requires.0 _ (first_is c.args.to.now c.args.c _ _
+    c.follow_on.ensures.0 c.least_from-first.ensures.0) _ _ _ _ c.loop-d.invariant
     c.loop-d-test.true
 
 pub returns : goal.returns
-returns c = so_far_end _ _ c.requires.1 _ c.requires.0
-    _ (first_is c.args.to.now c.args.c _ _
+returns c = so_far_end _ _ c.requires.1 _ c.requires.0 _ (first_is c.args.to.now c.args.c _ _
     c.follow_on.ensures.0 c.least_from-first.ensures.0) _ _ _ _
     c.loop-d.invariant c.loop-d-test.false

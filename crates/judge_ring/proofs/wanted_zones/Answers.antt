@@ -10,8 +10,7 @@ pub wanted_zone-requires : goal.wanted_zone-requires
 wanted_zone-requires c = (
   c.loop-c-test.true,
   c.requires.steps_most _ c.loop-c-test.true,
-  c.requires.zone_below _
-      c.loop-c-test.true,
+  c.requires.zone_below _ c.loop-c-test.true,
 )
 
 pub overflow_cast-wanted : goal.overflow_cast-wanted
@@ -20,8 +19,7 @@ overflow_cast-wanted c = omega (arith, c.wanted_zone.ensures, c.requires.zone_be
 pub loop-c-preserved : goal.loop-c-preserved
 loop-c-preserved c = (
   omega (arith, c.loop-c-test.true),
-  table_next 16 _ _ _ _ c.loop-c-test.true c.wanted_zone.ensures
-      c.loop-c.invariant.1,
+  table_next 16 _ _ _ _ c.loop-c-test.true c.wanted_zone.ensures c.loop-c.invariant.1,
 )
 
 pub returns : goal.returns

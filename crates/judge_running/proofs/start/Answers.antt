@@ -17,19 +17,16 @@ move_in-requires c = first_enterable _ _ _ _ _ _ _ _ _ c.requires.0 c.requires.1
 pub overflow_add-result : goal.overflow_add-result
 overflow_add-result c = omega (
   arith,
-  first_room _ _ _ _ _ _ _ _ _ c.requires.0 c.requires.1
-      c.requires.3.1 (omega (arith, c.if-at-c-gt0.false)),
+  first_room _ _ _ _ _ _ _ _ _ c.requires.0 c.requires.1 c.requires.3.1 (omega (arith, c.if-at-c-gt0.false)),
 )
 
 pub next_behind-requires : goal.next_behind-requires
 next_behind-requires c = (
   c.requires.0,
-  first_mate _ _ _ _ _ _ _ _ _ c.requires.0
-      c.requires.1 c.requires.3.1 (omega (arith, c.if-at-c-gt0.false)) _
+  first_mate _ _ _ _ _ _ _ _ _ c.requires.0 c.requires.1 c.requires.3.1 (omega (arith, c.if-at-c-gt0.false)) _
       c.requires.2,
 )
 
 pub returns : goal.returns
 returns c = λ left on. started_first _ _ _ left _ _ _ _ _ c.requires.0
-    c.requires.1 on (omega (arith, c.if-at-c-gt0.false)) _
-    c.requires.2 _ c.move_in.ensures _ c.next_behind.ensures
+    c.requires.1 on (omega (arith, c.if-at-c-gt0.false)) _ c.requires.2 _ c.move_in.ensures _ c.next_behind.ensures

@@ -20,8 +20,7 @@ pub overflow_add-c : goal.overflow_add-c
 overflow_add-c c = omega (
   arith,
   c.lowest-c.ensures.0,
-  stands_few _ _ _ _ _ _ _ _ _ c.loop-turn.invariant.underway
-      c.lowest-c.ensures.0,
+  stands_few _ _ _ _ _ _ _ _ _ c.loop-turn.invariant.underway c.lowest-c.ensures.0,
 )
 
 pub may_enter-requires : goal.may_enter-requires
@@ -38,58 +37,45 @@ bounds-on-lane c = omega (arith, c.lane.ensures, lane_few _ _ _ _ _ _ _ _ _ c.lo
 pub start-started-requires : goal.start-started-requires
 start-started-requires c = (
   c.lowest-c.ensures.0,
-  (wants_says _ _ _ _ _ _ _ _ _ c.loop-turn.invariant.underway
-      c.lowest-c.ensures.0
+  (wants_says _ _ _ _ _ _ _ _ _ c.loop-turn.invariant.underway c.lowest-c.ensures.0
       (sweeping_wants _ _ _ _ _ _ _ _ _ _ _ c.loop-turn.invariant _ c.lowest-c.ensures.1 _
       (steps_is _ _ _ _ _ c.lowest-c.ensures.0))
       (sweeping_free _ _ _ _ _ _ _ _ _ _ _ c.loop-turn.invariant _ c.lowest-c.ensures.1) _
       c.may_enter.ensures).0 c.if-may_enter.true,
-  lane_mates _ _ _ _ _ _ _ _ _ c.loop-turn.invariant.underway c.lowest-c.ensures.0 _ _
-      c.requires.2 c.lane.ensures,
+  lane_mates _ _ _ _ _ _ _ _ _ c.loop-turn.invariant.underway c.lowest-c.ensures.0 _ _ c.requires.2 c.lane.ensures,
   (_, c.loop-turn.invariant.underway),
 )
 
 pub advance-gone-requires : goal.advance-gone-requires
-advance-gone-requires c = let off = c.start-started.ensures _ c.loop-turn.invariant.underway
-    in (
-      off.onward.underway,
-      c.lowest-c.ensures.0,
-      off.started,
-      started_count _ _ _ _ _ _ _ _ _ _ _ _
-          c.lowest-c.ensures.0 off,
-      lane_mates _ _ _ _ _ _ _ _ _ c.loop-turn.invariant.underway
-          c.lowest-c.ensures.0 _ _ c.requires.2
-          c.lane.ensures,
-    )
+advance-gone-requires c = let off = c.start-started.ensures _ c.loop-turn.invariant.underway in (
+  off.onward.underway,
+  c.lowest-c.ensures.0,
+  off.started,
+  started_count _ _ _ _ _ _ _ _ _ _ _ _ c.lowest-c.ensures.0 off,
+  lane_mates _ _ _ _ _ _ _ _ _ c.loop-turn.invariant.underway c.lowest-c.ensures.0 _ _ c.requires.2 c.lane.ensures,
+)
 
 pub without-still-requires : goal.without-still-requires
 without-still-requires c = c.lowest-c.ensures.0
 
 pub loop-turn-smaller-then-gone : goal.loop-turn-smaller-then-gone
 loop-turn-smaller-then-gone c = again_less _ _ _ _ _ _ _ _ _ _ _ c.loop-turn.invariant _ c.lowest-c.ensures.1 _ c.rest-turn.ensures _ _ _ _ _ _
-    _ (c.start-started.ensures _
-    c.loop-turn.invariant.underway) c.joined-turn.ensures
-    c.joined-still.ensures _ _ _ _ _ _ _ c.advance-gone.ensures
-    c.lowest-c.ensures.0
+    _ (c.start-started.ensures _ c.loop-turn.invariant.underway) c.joined-turn.ensures
+    c.joined-still.ensures _ _ _ _ _ _ _ c.advance-gone.ensures c.lowest-c.ensures.0
 
 pub loop-turn-preserved-then-gone : goal.loop-turn-preserved-then-gone
 loop-turn-preserved-then-gone c = sweeping_out _ _ _ _ _ _ _ _ _ _ _ c.loop-turn.invariant _ c.lowest-c.ensures.1 _ c.rest-turn.ensures _ _ _ _ _
-    _ _ (c.start-started.ensures _
-    c.loop-turn.invariant.underway) c.joined-turn.ensures
-    c.joined-still.ensures _ _ _ _ _ _ _ c.advance-gone.ensures
-    c.if-gone.true _ c.without-still.ensures
+    _ _ (c.start-started.ensures _ c.loop-turn.invariant.underway) c.joined-turn.ensures
+    c.joined-still.ensures _ _ _ _ _ _ _ c.advance-gone.ensures c.if-gone.true _ c.without-still.ensures
 
 pub loop-turn-smaller-else-gone : goal.loop-turn-smaller-else-gone
 loop-turn-smaller-else-gone c = again_less _ _ _ _ _ _ _ _ _ _ _ c.loop-turn.invariant _ c.lowest-c.ensures.1 _ c.rest-turn.ensures _ _ _ _ _ _
-    _ (c.start-started.ensures _ c.loop-turn.invariant.underway)
-    c.joined-turn.ensures
-    c.joined-still.ensures _ _ _ _ _ _ _ c.advance-gone.ensures
-    c.lowest-c.ensures.0
+    _ (c.start-started.ensures _ c.loop-turn.invariant.underway) c.joined-turn.ensures
+    c.joined-still.ensures _ _ _ _ _ _ _ c.advance-gone.ensures c.lowest-c.ensures.0
 
 pub loop-turn-preserved-else-gone : goal.loop-turn-preserved-else-gone
 loop-turn-preserved-else-gone c = sweeping_on _ _ _ _ _ _ _ _ _ _ _ c.loop-turn.invariant _ c.lowest-c.ensures.1 _ c.rest-turn.ensures _ _ _ _ _ _
-    _ (c.start-started.ensures _ c.loop-turn.invariant.underway)
-    c.joined-turn.ensures
+    _ (c.start-started.ensures _ c.loop-turn.invariant.underway) c.joined-turn.ensures
     c.joined-still.ensures _ _ _ _ _ _ _ c.advance-gone.ensures c.if-gone.false
 
 pub loop-turn-smaller : goal.loop-turn-smaller
@@ -98,8 +84,7 @@ loop-turn-smaller c = rest_less _ _ _ _ _ _ _ _ _ _ _ c.loop-turn.invariant _ c.
 
 pub loop-turn-preserved : goal.loop-turn-preserved
 loop-turn-preserved c = sweeping_held _ _ _ _ _ _ _ _ _ _ _ c.loop-turn.invariant _ c.lowest-c.ensures.1 _ c.rest-turn.ensures
-    (λ m. true≢false (sym
-    ((wants_says _ _ _ _ _ _ _ _ _ c.loop-turn.invariant.underway c.lowest-c.ensures.0
+    (λ m. true≢false (sym ((wants_says _ _ _ _ _ _ _ _ _ c.loop-turn.invariant.underway c.lowest-c.ensures.0
     (sweeping_wants _ _ _ _ _ _ _ _ _ _ _ c.loop-turn.invariant _ c.lowest-c.ensures.1 _
     (steps_is _ _ _ _ _ c.lowest-c.ensures.0))
     (sweeping_free _ _ _ _ _ _ _ _ _ _ _ c.loop-turn.invariant _ c.lowest-c.ensures.1) _

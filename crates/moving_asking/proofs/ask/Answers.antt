@@ -12,10 +12,8 @@ ask_plan-requires c = record {
   zones = _;
   count = _;
   list = _;
-  valid = valid_sheet _ _ _ _ _
-      c.read_tables-read.ensures c.if-outcome-ne0.false;
-  valid_orders = valid_orders _ _ _ _ _
-      c.read_tables-read.ensures c.if-outcome-ne0.false;
+  valid = valid_sheet _ _ _ _ _ c.read_tables-read.ensures c.if-outcome-ne0.false;
+  valid_orders = valid_orders _ _ _ _ _ c.read_tables-read.ensures c.if-outcome-ne0.false;
 }
 
 pub returns : goal.returns

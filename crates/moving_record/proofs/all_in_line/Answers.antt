@@ -14,7 +14,7 @@ front_gone-requires c = (c.loop-c-test.true, c.requires _ c.loop-c-test.true)
 pub returns-then-not-front_gone : goal.returns-then-not-front_gone
 returns-then-not-front_gone c = (
   λ e. absurd (false≢true e),
-  λ all. absurd (false≢true (sym (c.if-not-front_gone.true) ∙ c.front_gone.ensures.1
+  λ all. absurd (false≢true (sym c.if-not-front_gone.true ∙ c.front_gone.ensures.1
       (all _ c.loop-c-test.true (omega (arith, c.if-at-c-gt0.true))))),
 )
 

@@ -15,17 +15,15 @@ in_turn-requires c = zones_known _ _ c.requires _ _ _
 pub returns-then-not-in_turn : goal.returns-then-not-in_turn
 returns-then-not-in_turn c = (
   λ e. absurd (false≢true e),
-  λ all. absurd (false≢true (sym (c.if-not-in_turn.true) ∙ c.in_turn.ensures.1
-      (rw (c.least-k.ensures, c.wide.ensures.0, c.steps.ensures)
-      (all _ c.loop-c-test.true)))),
+  λ all. absurd (false≢true (sym c.if-not-in_turn.true ∙ c.in_turn.ensures.1
+      (rw (c.least-k.ensures, c.wide.ensures.0, c.steps.ensures) (all _ c.loop-c-test.true)))),
 )
 
 pub loop-c-preserved : goal.loop-c-preserved
 loop-c-preserved c = (
   omega (arith, c.loop-c-test.true),
-  each_next _ _ c.loop-c.invariant.1
-      (rw (c.least-k.ensures, c.wide.ensures.0, c.steps.ensures) at
-      (c.in_turn.ensures.0 (c.if-not-in_turn.false))),
+  each_next _ _ c.loop-c.invariant.1 (rw (c.least-k.ensures, c.wide.ensures.0, c.steps.ensures) at
+      (c.in_turn.ensures.0 c.if-not-in_turn.false)),
 )
 
 pub returns : goal.returns

@@ -16,8 +16,7 @@ may_enter-requires c = (
 pub returns-then-not-may_enter : goal.returns-then-not-may_enter
 returns-then-not-may_enter c = (
   λ e. absurd (false≢true e),
-  λ all. absurd (false≢true (sym (c.if-not-may_enter.true) ∙ c.may_enter.ensures.1
-      (all _ c.loop-j-test.true))),
+  λ all. absurd (false≢true (sym c.if-not-may_enter.true ∙ c.may_enter.ensures.1 (all _ c.loop-j-test.true))),
 )
 
 pub overflow_add-j : goal.overflow_add-j
@@ -26,7 +25,7 @@ overflow_add-j c = omega (arith, c.requires.few, c.loop-j-test.true)
 pub loop-j-preserved : goal.loop-j-preserved
 loop-j-preserved c = (
   omega (arith, c.loop-j-test.true),
-  each_next _ _ c.loop-j.invariant.1 (c.may_enter.ensures.0 (c.if-not-may_enter.false)),
+  each_next _ _ c.loop-j.invariant.1 (c.may_enter.ensures.0 c.if-not-may_enter.false),
 )
 
 pub returns : goal.returns

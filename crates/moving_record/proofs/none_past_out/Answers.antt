@@ -28,19 +28,14 @@ returns-then-out_at-wide c = (
 )
 
 pub loop-c-preserved : goal.loop-c-preserved
-loop-c-preserved c = let here : get_or c.args.at.now
-    c.loop-c.c 0 ≤ moves_of
-    (get_or (parts.steps c.args.sheet.now)
+loop-c-preserved c = let here : get_or c.args.at.now c.loop-c.c 0 ≤ moves_of (get_or (parts.steps c.args.sheet.now)
     c.loop-c.c 0) = omega (
       arith,
       c.if-out_at-wide.false,
       c.out_at.ensures,
       c.wide.ensures.0,
       ap moves_of c.steps.ensures,
-    ) in (
-      omega (arith, c.loop-c-test.true),
-      each_next _ _ c.loop-c.invariant.1 here,
-    )
+    ) in (omega (arith, c.loop-c-test.true), each_next _ _ c.loop-c.invariant.1 here)
 
 pub returns : goal.returns
 returns c = (λ _ d h. c.loop-c.invariant.1 d (omega (arith, h, c.loop-c-test.false)), λ _. refl)

@@ -9,8 +9,7 @@ loop-c-init c = (omega arith, table_none 16 _)
 pub loop-c-preserved : goal.loop-c-preserved
 loop-c-preserved c = (
   omega (arith, c.loop-c-test.true),
-  table_next 16 _ _ _ _ c.loop-c-test.true
-      c.one_less.ensures c.loop-c.invariant.1,
+  table_next 16 _ _ _ _ c.loop-c-test.true c.one_less.ensures c.loop-c.invariant.1,
 )
 
 pub returns : goal.returns

@@ -34,11 +34,7 @@ may_move-requires c = (c.requires.standing, c.loop-cart.invariant.here_cart, c.r
 
 pub overflow_add-result : goal.overflow_add-result
 overflow_add-result c = record {
-  fits = omega (
-    arith,
-    so_far_few _ _ _ _ _ _ _ _ _ c.loop-cart.invariant _
-        c.requires.far_few c.requires.free,
-  );
+  fits = omega (arith, so_far_few _ _ _ _ _ _ _ _ _ c.loop-cart.invariant _ c.requires.far_few c.requires.free);
 }
 
 pub wants_out-requires : goal.wants_out-requires
@@ -46,17 +42,13 @@ wants_out-requires c = c.loop-cart.invariant.here_cart
 
 pub returns-then-may_move : goal.returns-then-may_move
 returns-then-may_move c = rw (c.done.ensures, c.wanted_zone.ensures, c.wants_out.ensures)
-    (so_far_end _ _ _ _ _ _ _ _ _ c.loop-cart.invariant _
-    c.requires.far_few c.requires.free (carts_16 _ _ _ _)
-    (c.may_move.ensures.0 c.if-may_move.true)
-    (last_in (parts.steps c.args.sheet.now)
-    c.args.at.now))
+    (so_far_end _ _ _ _ _ _ _ _ _ c.loop-cart.invariant _ c.requires.far_few c.requires.free (carts_16 _ _ _ _)
+    (c.may_move.ensures.0 c.if-may_move.true) (last_in (parts.steps c.args.sheet.now) c.args.at.now))
 
 pub overflow_add-n : goal.overflow_add-n
 overflow_add-n c = omega (
   arith,
-  so_far_few _ _ _ _ _ _ _ _ _ c.loop-cart.invariant _ c.requires.far_few
-      c.requires.free,
+  so_far_few _ _ _ _ _ _ _ _ _ c.loop-cart.invariant _ c.requires.far_few c.requires.free,
 )
 
 pub points_to-c-requires : goal.points_to-c-requires
@@ -65,8 +57,7 @@ points_to-c-requires c = (c.requires.pointable, c.loop-cart.invariant.here_cart)
 pub loop-cart-smaller : goal.loop-cart-smaller
 loop-cart-smaller c = omega (
   arith,
-  so_far_few _ _ _ _ _ _ _ _ _ c.loop-cart.invariant _
-      c.requires.far_few c.requires.free,
+  so_far_few _ _ _ _ _ _ _ _ _ c.loop-cart.invariant _ c.requires.far_few c.requires.free,
 )
 
 pub loop-cart-preserved : goal.loop-cart-preserved

@@ -10,16 +10,11 @@ returns-then-outcome-ne0 c = c.no_chain.ensures ∙ why_refused _ _ _ _ _ c.read
 pub why_plan-requires : goal.why_plan-requires
 why_plan-requires c = record {
   zones = _;
-  valid = valid_sheet _ _ _ _ _ c.read_tables-read.ensures
-      c.if-outcome-ne0.false;
-  valid_orders = valid_orders _ _ _ _ _ c.read_tables-read.ensures
-      c.if-outcome-ne0.false;
+  valid = valid_sheet _ _ _ _ _ c.read_tables-read.ensures c.if-outcome-ne0.false;
+  valid_orders = valid_orders _ _ _ _ _ c.read_tables-read.ensures c.if-outcome-ne0.false;
 }
 
 pub returns : goal.returns
-returns c = c.why_plan.ensures _ (valid_sheet _ _ _ _ _ c.read_tables-read.ensures
-    c.if-outcome-ne0.false)
-    (valid_orders _ _ _ _ _ c.read_tables-read.ensures
-    c.if-outcome-ne0.false)
-    ∙ why_read _ _ _ _ _ c.read_tables-read.ensures _ _
-    c.if-outcome-ne0.false
+returns c = c.why_plan.ensures _ (valid_sheet _ _ _ _ _ c.read_tables-read.ensures c.if-outcome-ne0.false)
+    (valid_orders _ _ _ _ _ c.read_tables-read.ensures c.if-outcome-ne0.false)
+    ∙ why_read _ _ _ _ _ c.read_tables-read.ensures _ _ c.if-outcome-ne0.false

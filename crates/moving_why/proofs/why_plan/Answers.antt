@@ -11,11 +11,9 @@ pub returns-then-outcome-ne0 : goal.returns-then-outcome-ne0
 returns-then-outcome-ne0 c = λ n v w. c.no_chain.ensures ∙ untested_in _ _ _ _ _ _ c.test_cart-tested.ensures _ _ c.if-outcome-ne0.true n v w
 
 pub chain_from-requires : goal.chain_from-requires
-chain_from-requires c = followable_in _ _ _ _ _ _ c.test_cart-tested.ensures _ _
-    c.if-outcome-ne0.false c.requires
+chain_from-requires c = followable_in _ _ _ _ _ _ c.test_cart-tested.ensures _ _ c.if-outcome-ne0.false c.requires
     _ c.lanes-lanes.ensures
 
 pub returns : goal.returns
-returns c = λ n v w. c.chain_from.ensures ∙ chain_in_lem _ _ _ _ _ _
-    c.test_cart-tested.ensures _ _
+returns c = λ n v w. c.chain_from.ensures ∙ chain_in_lem _ _ _ _ _ _ c.test_cart-tested.ensures _ _
     c.if-outcome-ne0.false n v w

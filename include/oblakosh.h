@@ -1,4 +1,5 @@
-/* Oblakosh: who goes through the crossing first. The public operations, for C and for whatever calls C, on x86-64 Linux.
+/* Oblakosh: who goes through the crossing first. The public operations, for C and for whatever calls C, on x86-64 Linux
+   (x86-64-v2).
 
    Libraries, made by `./build linked_judge_c oblakosh_c moving_c`, each with the functions of one crate:
      liblinked_judge.a  oblakosh_read_sheet, oblakosh_read_plan, oblakosh_judge

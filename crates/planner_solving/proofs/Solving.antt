@@ -1,5 +1,5 @@
 -- A group solved: its trial gives its orders, or it fails, has two ranks at least, and the halves give them.
-use Prim.Native.Nat.{ℕ, suc, ◌-◌, ◌<◌}
+use Prim.Native.Nat.{ℕ, suc, ◌<◌}
 use mathlib.Core.Path.{◌≡◌, subst}
 use mathlib.Core.Bool.{Bool, true, false}
 use mathlib.Core.List.{List}

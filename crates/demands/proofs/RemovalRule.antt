@@ -2,7 +2,7 @@
 -- And its levels: each cut halves a group, so that below the fourth level a group has one cart and no pair.
 use Prim.Native.Nat.{ℕ, zero, suc, ◌+◌, ◌/◌, ◌≤◌, ◌<◌}
 use mathlib.Core.Path.{◌≡◌, sym, ap, ◌∙◌}
-use mathlib.Core.Bool.{true, false, true≢false, not-eq-not}
+use mathlib.Core.Bool.{false, true≢false, not-eq-not}
 use mathlib.Core.List.{[]}
 use native.Mathlib.Decide.{dec_lt}
 use native.Mathlib.Omega.{arith}

@@ -153,8 +153,8 @@ module _ (X : Crossing) where
         passes : AllPast table position 16 → AllPass X (fired_all X begins on.marked.sequence)
         passes all c some =
             let cart : c < 16 = omega (arith, step_cart X c 0 some, sixteen) in
-            let past-last = all c cart (omega (arith, counted c cart)) in
-            let stands : pos position c ≡ suc (steps X c) = omega (arith, on.marked.within c, out c some, counted c cart, past-last) in
+            let past_last = all c cart (omega (arith, counted c cart)) in
+            let stands : pos position c ≡ suc (steps X c) = omega (arith, on.marked.within c, out c some, counted c cart, past_last) in
             holds c some ∙ ap one (eq-eqb (pos position c) (suc (steps X c)) stands)
 
         past : AllPass X (fired_all X begins on.marked.sequence) → AllPast table position 16

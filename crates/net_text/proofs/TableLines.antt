@@ -93,7 +93,7 @@ module _ (sheet : List ℕ) (d z : ℕ) where
   step_none none_yet = sym (place_none route z λ e l here. none_yet e (omega (arith, route_length)) (sym (route_at e (omega (arith, route_length))) ∙ here))
 
   pub not_yet_more : (j : ℕ) → NotYet sheet d z j → get_or (parts.zone sheet) (8 * d + j) 0 ≢ z → NotYet sheet d z (j + 1)
-  not_yet_more j none_yet here e l = elim (dec_lt e j) [ yes before ↦ none_yet e before | no after ↦ let e-is : e ≡ j = omega arith in rw e-is here ]
+  not_yet_more j none_yet here e l = elim (dec_lt e j) [ yes before ↦ none_yet e before | no after ↦ let e_is : e ≡ j = omega arith in rw e_is here ]
 
 -- ---- another cart, as its test picks it
 

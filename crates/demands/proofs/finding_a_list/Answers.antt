@@ -3,4 +3,4 @@ use Rattle.demands.proofs.DemandOne.{finding_a_list}
 use Rattle.demands.proofs.finding_a_list.Goals as goal
 
 pub returns : goal.returns
-returns c = finding_a_list _ _ _ _ c.find_list.ensures.is
+returns c = record { demand_one = finding_a_list _ _ _ _ c.find_list.ensures.is }

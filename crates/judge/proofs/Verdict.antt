@@ -61,11 +61,11 @@ module _ (sheet : Sheet) (orders : Orders) where
   -- what the verdict over tables tells of the plan
   module _ (v : Valid sheet) (w : ValidOrders sheet orders) (G : Given) (enter order : List ℕ) (run : Verdict) (runs : Runs X G enter order run) where
     pub settled_end : run.at ≡ at_end sheet orders
-    settled_end = runs.settled.at_end_lem ∙ ap (λ (T : System). end T (start T)) (plan_system_lem sheet v orders w)
+    settled_end = runs.settled.is_end ∙ ap (λ (T : System). end T (start T)) (plan_system_lem sheet v orders w)
 
     pub stuck_lowest : run.stuck ≡ lowest_stuck S (at_end sheet orders)
     stuck_lowest = runs.lowest ∙ ap (λ (T : System). lowest_stuck T run.at) (plan_system_lem sheet v orders w) ∙ ap (lowest_stuck S) settled_end
 
     pub verdict_is : run.out ≡ is_out sheet orders
-    verdict_is = same_test _ _ (λ e. (end_says X).1 (sym runs.settled.at_end_lem ∙ runs.out.0 e))
-        (λ e. runs.out.1 (runs.settled.at_end_lem ∙ (end_says X).0 e)) ∙ tables_out v w
+    verdict_is = same_test _ _ (λ e. (end_says X).1 (sym runs.settled.is_end ∙ runs.out.0 e))
+        (λ e. runs.out.1 (runs.settled.is_end ∙ (end_says X).0 e)) ∙ tables_out v w

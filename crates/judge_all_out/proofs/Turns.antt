@@ -180,8 +180,8 @@ module _ (X : Crossing) where
 
   -- all are out where none is inside
   module _ (at left : List ℕ) (inside : ℕ) (moved : Bool) (on : Settling at left inside moved) (over : moved ≡ false) where
-    at_end_lem : at ≡ end S (start S)
-    at_end_lem = end_unique S (start S) at (start_in_range S) on.have_moved.reached (on.none_left over)
+    is_end : at ≡ end S (start S)
+    is_end = end_unique S (start S) at (start_in_range S) on.have_moved.reached (on.none_left over)
 
     none_inside : inside ≡ 0 → at ≡ S.out
     none_inside none =
@@ -198,5 +198,5 @@ module _ (X : Crossing) where
 
     pub settling_end : eqb inside 0 ≡ is_out X
     settling_end =
-        same_test _ _ (λ e. (end_says X).1 (sym at_end_lem ∙ none_inside ((eqb_says inside 0).0 e)))
-        (λ e. (eqb_says inside 0).1 (all_outside (at_end_lem ∙ (end_says X).0 e)))
+        same_test _ _ (λ e. (end_says X).1 (sym is_end ∙ none_inside ((eqb_says inside 0).0 e)))
+        (λ e. (eqb_says inside 0).1 (all_outside (is_end ∙ (end_says X).0 e)))

@@ -230,7 +230,7 @@ module _ (X : Crossing) (G : Given) where
     settling_end done =
         let run = on.underway.running in
         record {
-          at_end_lem = end_unique S (start S) at (start_in_range S) run.reached (on.going_is.none_left (omega arith));
+          is_end = end_unique S (start S) at (start_in_range S) run.reached (on.going_is.none_left (omega arith));
           left_24 = run.left_24;
           left_is = run.left_is;
           counted = on.underway.counted;

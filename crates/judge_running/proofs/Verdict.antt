@@ -32,10 +32,10 @@ module _ (X : Crossing) (G : Given) (at left enter order : List ℕ) (made : ℕ
 
   -- all come out exactly where the carts settle out
   pub settled_out : AllComeOut S (start S) ↔ (at ≡ S.out)
-  settled_out = rw settled.at_end_lem (end_out S (start S) (start_in_range S))
+  settled_out = rw settled.is_end (end_out S (start S) (start_in_range S))
 
   pub settled_reached : Reached S at
-  settled_reached = rw settled.at_end_lem (end_reached S (start S))
+  settled_reached = rw settled.is_end (end_reached S (start S))
 
   -- and then as many moves are made as there are steps and carts
   pub settled_made : at ≡ S.out → made ≡ all_steps X + present_carts X
@@ -48,7 +48,7 @@ module _ (X : Crossing) (G : Given) (at left enter order : List ℕ) (made : ℕ
   -- no second answer fits
   module _ (only : OnlyVisitors X) (at' left' enter' order' : List ℕ) (made' : ℕ) (other : SettlesAs X G at' left' enter' order' made') where
     pub settled_at : at ≡ at'
-    settled_at = settled.at_end_lem ∙ sym other.at_end_lem
+    settled_at = settled.is_end ∙ sym other.is_end
 
     pub settled_moves : made ≡ made'
     settled_moves = settled.counted ∙ ap sum settled_at ∙ sym other.counted

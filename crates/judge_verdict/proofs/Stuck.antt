@@ -33,7 +33,7 @@ module _ (steps zone front ahead : List ℕ) (G : Given) (at left enter order : 
   sixteen = carts_16 steps zone front ahead
 
   in_range : InRange S at
-  in_range = rw settled.at_end_lem (reaches_in_range S (start S) _ (start_in_range S) (end_reached S (start S)))
+  in_range = rw settled.is_end (reaches_in_range S (start S) _ (start_in_range S) (end_reached S (start S)))
 
   out_at : (c : ℕ) → c < 16 → pos S.out c ≡ moves_of (get_or steps c 0)
   out_at c l = out_are (crossing_by steps zone front ahead) c ∙ ap moves_of (steps_is steps zone front ahead c l)

@@ -36,7 +36,7 @@ module _ (T : Tables) where
     first_below = R.first_below;
     none_found = λ f o c. R.none_found f o ((same o).1 c);
     below_all = R.below_all;
-    is_undecided_lem = R.is_undecided_lem;
+    still_undecided = R.still_undecided;
     largest = λ f U K. largest_as U (times_of T.enter) (times_of T.spare) same (chosen T r) (R.largest f U K);
   }
 
@@ -52,7 +52,7 @@ module _ (T : Tables) where
 
       taken_told : r.found ≡ true → is_taken_at T.zone T.rank x a v r ≡ is_taken_over U (chosen T new) (chosen T r)
       taken_told f = told_taken U T K.tabled x a v r (told_carts U T K x a below is)
-          (told_carts U T K r.step r.first R.step_below (R.is_undecided_lem f))
+          (told_carts U T K r.step r.first R.step_below (R.still_undecided f))
 
     pub chosen_over : is_taken_at T.zone T.rank x a v r ≡ true → Chosen T More new
     chosen_over over = record {
@@ -60,7 +60,7 @@ module _ (T : Tables) where
       first_below = few;
       none_found = λ f. clash refl f;
       below_all = λ f. clash refl f;
-      is_undecided_lem = λ _. is;
+      still_undecided = λ _. is;
       largest = λ _ U K. largest U K r.found refl;
     }
       where
@@ -79,7 +79,7 @@ module _ (T : Tables) where
       first_below = R.first_below;
       none_found = λ f. clash (first_over f) under;
       below_all = R.below_all;
-      is_undecided_lem = R.is_undecided_lem;
+      still_undecided = R.still_undecided;
       largest = λ f U K.
           largest_stays U _ _ More (order_at T x a) is-more Candidate either (chosen T r) (R.largest f U K)
           (all (order_at T r.step r.first) (R.largest f U K).candidate)

@@ -48,25 +48,25 @@ module _ (U : Unplanned) (low high : ℕ) (decided : List Order) where
       step_zone : get_or (route U (x / 8)) (x % 8) 0 ≡ get_or T.zone x 0
       step_zone = sym (rw place at (K.zone_is (x / 8) (x % 8) is_step))
 
-      is_undecided_lem : is_undecided U low high decided (get_or T.zone x 0) a (x / 8) ≡ true
-      is_undecided_lem = rw step_zone at (sym (rw place at (H.at_step (x / 8) (x % 8) a is_step)) ∙ is)
+      still_undecided : is_undecided U low high decided (get_or T.zone x 0) a (x / 8) ≡ true
+      still_undecided = rw step_zone at (sym (rw place at (H.at_step (x / 8) (x % 8) a is_step)) ∙ is)
 
     group_costable : Costable U T
     group_costable = record {
       tabled = K;
       is_step = is_step;
-      is_pair_lem = λ x a below is. ((undecided_says U low high decided _ a (x / 8)).0 (is_undecided_lem x a below is)).is_in_lem.pair;
+      are_pairs = λ x a below is. ((undecided_says U low high decided _ a (x / 8)).0 (still_undecided x a below is)).is_in_lem.pair;
     }
 
     on : (o : Order) → CandidateBelow T 128 o → IsCandidate U low high decided o
     on o c =
-        let carts = told_carts U T group_costable c.step o.first c.step_below c.is_undecided_lem in
+        let carts = told_carts U T group_costable c.step o.first c.step_below c.still_undecided in
         rw c.is_order (record {
-          zone_below = rw (step_zone c.step o.first c.step_below c.is_undecided_lem) at
-              (K.zone_below _ _ (is_step c.step o.first c.step_below c.is_undecided_lem));
+          zone_below = rw (step_zone c.step o.first c.step_below c.still_undecided) at
+              (K.zone_below _ _ (is_step c.step o.first c.step_below c.still_undecided));
           first_below = carts.0;
           second_below = carts.1;
-          undecided = (undecided_says U low high decided _ _ _).0 (is_undecided_lem c.step o.first c.step_below c.is_undecided_lem);
+          undecided = (undecided_says U low high decided _ _ _).0 (still_undecided c.step o.first c.step_below c.still_undecided);
         })
 
     back : (o : Order) → IsCandidate U low high decided o → CandidateBelow T 128 o
@@ -76,7 +76,7 @@ module _ (U : Unplanned) (low high : ℕ) (decided : List Order) where
         record {
           step = 8 * o.second + j;
           step_below = omega (arith, u.second_below, K.carts_most);
-          is_undecided_lem = H.at_step o.second j o.first l ∙ rw there ((undecided_says U low high decided o.zone o.first o.second).1
+          still_undecided = H.at_step o.second j o.first l ∙ rw there ((undecided_says U low high decided o.zone o.first o.second).1
               u.undecided);
           is_order = same_order o _ (sym (K.zone_is o.second j l ∙ there)) refl (sym (row_at o.second j few));
         }

@@ -31,7 +31,7 @@ module _ (T : Tables) where
     first_below = omega arith;
     none_found = λ _ o c. omega (arith, c.step_below);
     below_all = λ _. refl;
-    is_undecided_lem = λ f. clash f refl;
+    still_undecided = λ f. clash f refl;
     largest = λ f. clash f refl;
   }
 
@@ -50,7 +50,7 @@ module _ (T : Tables) where
     Scanned others r = Within others here × Chosen T (Seen others) r
 
     next : (o : Order) → CandidateBelow T x o → CandidateBelow T (x + 1) o
-    next o c = record { step = c.step; step_below = omega (arith, c.step_below); is_undecided_lem = c.is_undecided_lem; is_order = c.is_order }
+    next o c = record { step = c.step; step_below = omega (arith, c.step_below); still_undecided = c.still_undecided; is_order = c.is_order }
 
     pub scan_start : (r : Choice) → Chosen T (CandidateBelow T x) r → Scanned here r
     scan_start r R = (λ d h. h, chosen_as T (λ o. (inl, back o)) r R)
@@ -67,13 +67,13 @@ module _ (T : Tables) where
 
         on : (o : Order) → Seen others o → CandidateBelow T (x + 1) o
         on o (inl c) = next o c
-        on o (inr h) = record { step = x; step_below = omega arith; is_undecided_lem = h.0; is_order = h.2 }
+        on o (inr h) = record { step = x; step_below = omega arith; still_undecided = h.0; is_order = h.2 }
 
         back : (o : Order) → CandidateBelow T (x + 1) o → Seen others o
         back o c =
             elim (ℕ_discrete c.step x) [
-              | yes e ↦ inr (rw e at c.is_undecided_lem, empty o.first, rw e at c.is_order)
-              | no e ↦ inl (record { step = c.step; step_below = omega (arith, c.step_below); is_undecided_lem = c.is_undecided_lem; is_order = c.is_order })
+              | yes e ↦ inr (rw e at c.still_undecided, empty o.first, rw e at c.is_order)
+              | no e ↦ inl (record { step = c.step; step_below = omega (arith, c.step_below); still_undecided = c.still_undecided; is_order = c.is_order })
             ]
 
     -- nothing is undecided at the step

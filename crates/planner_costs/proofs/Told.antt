@@ -50,7 +50,7 @@ module _ (U : Unplanned) (T : Tables) (K : Costable U T) (x a : ℕ) (below : x 
   place = omega arith
 
   pair : (Visiting U a z × Visiting U b z) × ¬ (U.given.lane a ≡ U.given.lane b)
-  pair = (pair_says U z a b).0 (K.is_pair_lem x a below is)
+  pair = (pair_says U z a b).0 (K.are_pairs x a below is)
 
   first_below : i < length (route U a)
   first_below = place_below (route U a) z pair.0.0

@@ -46,7 +46,7 @@ rank_all arrival m n c rank e is = rw e at is
 
 pub ranked_all : (arrival : List ℕ) (m n : ℕ) (ranks : List ℕ) → m ≤ 16 → n ≡ m → ranks ≡ table 16 n (rank_in arrival m) → Ranks arrival m ranks
 ranked_all arrival m n ranks few e filled = rw (filled, e) (record {
-  of_cart_lem = table_used 16 m (rank_in arrival m) few;
+  each_rank = table_used 16 m (rank_in arrival m) few;
   of_none = table_unused 16 m
       (rank_in arrival m);
 })
@@ -60,4 +60,4 @@ module _ (arrival : List ℕ) (U : Unplanned) (same : (c : ℕ) → U.given.arri
 
   -- they are the ranks of the removal rule, of any carts with these arrivals
   pub ranks_are : (ranks : List ℕ) → Ranks arrival U.carts ranks → (c : ℕ) → c < U.carts → get_or ranks c 0 ≡ rank U c
-  ranks_are ranks told c h = told.of_cart_lem c h ∙ rank_is c
+  ranks_are ranks told c h = told.each_rank c h ∙ rank_is c

@@ -228,7 +228,7 @@ module _ (sheet ranks visit behind undecided enter order : List ℕ) (run : Verd
       enter spare) 128 choice
       → Chosen sheet ranks visit behind undecided enter order run choice
   chosen_told choice chosen = record {
-    candidate = λ e. record { step_below = chosen.step_below; first_below = chosen.first_below; is_undecided_lem = chosen.is_undecided_lem e };
+    candidate = λ e. record { step_below = chosen.step_below; first_below = chosen.first_below; still_undecided = chosen.still_undecided e };
     tells = λ pairs ahead runs_out W low high decided told holds.
         on_tables sheet ranks pairs visit
         (λ W. Told W sheet ranks pairs visit → Holds W low high decided ahead behind undecided

@@ -60,7 +60,7 @@ module _ (sheet ranks pairs visit ahead behind undecided : List ℕ) (step first
   module _ (U : Unplanned) (told : Told U sheet ranks pairs visit)
       (low high : ℕ) (decided : List Order) (holds : Holds U low high decided ahead behind undecided) where
     is_step : step % 8 < steps (unordered U) (step / 8)
-    is_step = undecided_step U low high decided ahead behind undecided holds step first candidate.step_below candidate.is_undecided_lem
+    is_step = undecided_step U low high decided ahead behind undecided holds step first candidate.step_below candidate.still_undecided
 
     there : zone (unordered U) (step / 8) (step % 8) ≡ get_or (parts.zone sheet) step 0
     there =
@@ -72,7 +72,7 @@ module _ (sheet ranks pairs visit ahead behind undecided : List ℕ) (step first
         ap (λ (z : ℕ). is_undecided U low high decided z first (step / 8)) (sym there)
         ∙ sym ((holds.at_step (step / 8) (step % 8) is_step).undecided_is first)
         ∙ ap (λ (x : ℕ). has (get_or undecided x 0) first) (div-add-mod step 8)
-        ∙ candidate.is_undecided_lem
+        ∙ candidate.still_undecided
 
     first_at : tables.StepAt U o.zone first other
     first_at =

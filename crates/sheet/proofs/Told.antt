@@ -46,7 +46,7 @@ module _ (s : List ℕ) where
   told_outside number place n none =
       record {
         which_cart = λ _ i. (λ e. absurd (omega arith), λ h. absurd (none i h));
-        which_step = λ _ j. (λ e. absurd (omega arith), λ h. absurd (none h.0 h.1.in_cart_lem));
+        which_step = λ _ j. (λ e. absurd (omega arith), λ h. absurd (none h.0 h.1.inside_cart));
         after_carts = λ _. (refl, refl);
         at_arrival = λ _. refl;
         others = λ m. absurd (m n);
@@ -57,7 +57,7 @@ module _ (s : List ℕ) where
   told_cart number i place n other lies head =
       record {
         which_cart = λ _ k. (λ e. let same : i ≡ k = omega arith in rw same at lies, λ h. omega (arith, one_cart i k place lies h));
-        which_step = λ _ j. (λ e. absurd (omega arith), λ h. absurd (no_step j h.0 (one_cart i h.0 place lies h.1.in_cart_lem) h.1));
+        which_step = λ _ j. (λ e. absurd (omega arith), λ h. absurd (no_step j h.0 (one_cart i h.0 place lies h.1.inside_cart) h.1));
         after_carts = λ e. absurd (other e);
         at_arrival = λ _. refl;
         others = λ m. absurd (m n);
@@ -70,10 +70,10 @@ module _ (s : List ℕ) where
   told_step number i j place n lies =
       record {
         which_cart = λ _ k.
-            (λ e. let same : i ≡ k = omega arith in rw same at lies.in_cart_lem, λ h. omega (arith, one_cart i k place lies.in_cart_lem h));
+            (λ e. let same : i ≡ k = omega arith in rw same at lies.inside_cart, λ h. omega (arith, one_cart i k place lies.inside_cart h));
         which_step = λ _ k. (
           λ e. let same : j ≡ k = omega arith in (i, rw same at lies),
-          λ h. same_step k h.0 (one_cart i h.0 place lies.in_cart_lem h.1.in_cart_lem) h.1,
+          λ h. same_step k h.0 (one_cart i h.0 place lies.inside_cart h.1.inside_cart) h.1,
         );
         after_carts = λ e. absurd (omega (arith, n.1, e));
         at_arrival = λ e. absurd (omega (arith, n.1, e));
@@ -139,7 +139,7 @@ module _ (s : List ℕ) where
     in_steps : (j place : ℕ) → j < step_count s i → zone_at s i j ≤ place → place < zone_at s i (j + 1) → LiesInStep s i j place
     in_steps j place k l m =
         record {
-          in_cart_lem = record { present = present; from = omega (arith, l); before = omega (arith, k, m, cart_next i) };
+          inside_cart = record { present = present; from = omega (arith, l); before = omega (arith, k, m, cart_next i) };
           present = k;
           from = l;
           before = m;

@@ -16,7 +16,7 @@ module _ (s : List ℕ) where
 
   -- "inside a step"
   pub record LiesInStep (i j place : ℕ) : Type 0 where
-    pub in_cart_lem : LiesInCart i place
+    pub inside_cart : LiesInCart i place
     pub present : j < step_count s i
     pub from : zone_at s i j ≤ place
     pub before : place < zone_at s i (j + 1)

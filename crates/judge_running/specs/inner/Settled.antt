@@ -14,7 +14,7 @@ use Rattle.judge_entering.specs.inner.Times.{AtMost}
 -- no move is left: where the carts stand, for each zone the carts that have left it, the entering times of the steps entered, 0 for the others,
 -- how many moves they made, and the run itself: the first `made` entries of `order` are the carts that made them, first to last
 pub record SettlesAs (X : Crossing) (G : Given) (at left enter order : List ℕ) (made : ℕ) : Type 0 where
-  pub at_end_lem : at ≡ end (system X) (start (system X))
+  pub is_end : at ≡ end (system X) (start (system X))
   pub left_24 : length left ≡ 24
   pub left_is : (z : ℕ) → LeftSet X at z (get_or left z 0)
   pub counted : made ≡ sum at

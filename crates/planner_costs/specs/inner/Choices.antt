@@ -25,7 +25,7 @@ module _ (T : Tables) where
     pub first_below : r.first < 16
     pub none_found : r.found ≡ false → (o : Order) → Candidate o → ⊥
     pub below_all : r.found ≡ false → r.cost ≡ negsuc most_taken_off
-    pub is_undecided_lem : r.found ≡ true → has (get_or T.undecided r.step 0) r.first ≡ true
+    pub still_undecided : r.found ≡ true → has (get_or T.undecided r.step 0) r.first ≡ true
     pub largest : r.found ≡ true → (U : Unplanned) → Costable U T
         → IsLargest U (times_of T.enter) (times_of T.spare) Candidate (chosen r)
 

@@ -64,7 +64,7 @@ module _ (T : Tables) where
   pub record CandidateBelow (n : ℕ) (o : Order) : Type 0 where
     pub step : ℕ
     pub step_below : step < n
-    pub is_undecided_lem : has (get_or T.undecided step 0) o.first ≡ true
+    pub still_undecided : has (get_or T.undecided step 0) o.first ≡ true
     pub is_order : o ≡ order_at step o.first
 
 module _ (U : Unplanned) where
@@ -88,7 +88,7 @@ module _ (U : Unplanned) where
   pub record Costable (T : Tables) : Type 0 where
     pub tabled : Tabled T.zone T.cross T.passing T.rank T.visit
     pub is_step : (x a : ℕ) → x < 128 → has (get_or T.undecided x 0) a ≡ true → x % 8 < length (route (x / 8))
-    pub is_pair_lem : (x a : ℕ) → x < 128 → has (get_or T.undecided x 0) a ≡ true → is_pair U (get_or T.zone x 0) a (x / 8) ≡ true
+    pub are_pairs : (x a : ℕ) → x < 128 → has (get_or T.undecided x 0) a ≡ true → is_pair U (get_or T.zone x 0) a (x / 8) ≡ true
 
   -- the table holds for each step the carts with which it is undecided in a group, and nothing elsewhere
   pub record HoldsUndecided (low high : ℕ) (decided : List Order) (undecided : List ℕ) : Type 0 where

@@ -28,7 +28,7 @@ order_of zone step first = record { zone = get_or zone step 0; first = first; se
 pub record Candidate (undecided : List ℕ) (step first : ℕ) : Type 0 where
   pub step_below : step < 128
   pub first_below : first < 16
-  pub is_undecided_lem : has (get_or undecided step 0) first ≡ true
+  pub still_undecided : has (get_or undecided step 0) first ≡ true
 
 -- "Take the direction of largest cost": what a choice tells of the turn, that no pair is left to decide, or which order is taken
 pub record Chooses (U : Unplanned) (low high : ℕ) (decided : List Order) (zone : List ℕ) (choice : Choice) : Type 0 where

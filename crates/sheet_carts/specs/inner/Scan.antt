@@ -1,5 +1,5 @@
 -- The carts of a sheet and what follows them, as one pass meets them. Each definition is the rest of the work from a place on.
-use Rattle.std.specs.Prelude.{ℕ, zero, suc, ◌+◌, ◌*◌, Bool, false, ◌&&◌, ◌||◌, List, length, get_or, set, ltb, eqb}
+use Rattle.std.specs.Prelude.{ℕ, zero, suc, ◌+◌, ◌*◌, Bool, false, ◌&&◌, ◌||◌, List, length, get_or, set, ltb, eqb, Result, Ok, Err}
 use Rattle.words.specs.Lists.{pick, any_below}
 use Rattle.words.specs.Checks.{refused}
 use Rattle.fields.specs.Field.{in_cart, in_step}
@@ -11,15 +11,16 @@ use Rattle.sheet.specs.declared.SheetRead.{SheetRead}
 use Rattle.sheet_filling.specs.inner.Filled.{with_cart, with_step}
 use Rattle.sheet_cart.specs.inner.Parts.{head_at, step_at}
 use Rattle.sheet_cart.specs.declared.CartHead.{CartHead}
-use Rattle.sheet_cart.specs.declared.Head.{Head}
-use Rattle.sheet_cart.specs.declared.Head.TheVariants.{Got as GotHead, Refused as NoHead}
+use Rattle.words.specs.declared.Outcome.{Outcome}
 use Rattle.sheet_cart.specs.declared.Step.{Step}
-use Rattle.sheet_cart.specs.declared.Step.TheVariants.{Got as GotStep, Refused as NoStep}
 
--- ---- what a head does to the sheet
+-- ---- what a head and a step do to the sheet
 
 abbrev pub put_cart : Sheet → ℕ → CartHead → Sheet
 put_cart sh i h = with_cart sh i h.lane h.arrival h.steps
+
+abbrev pub put_step : Sheet → ℕ → Step → Sheet
+put_step sh x step = with_step sh x step.zone step.passing step.travel
 
 -- ---- the rest of the work, from the last field to the first
 
@@ -38,26 +39,22 @@ lanes_from sh spot (suc n) i =
 unfoldable pub finish : List ℕ → Sheet → List ℕ → ℕ → SheetRead
 finish s sh spot at = pick (eqb at (length s)) (lanes_from sh spot sh.carts 0) (sheet_refused (refused 13 at))
 
--- what each case of the answers Step and Head says: the values and the next cursor, to go on with, or the refusal
-abbrev pub on_step : Step → (ℕ → ℕ → ℕ → Cursor → SheetRead) → SheetRead
-on_step (GotStep zone passing travel next) go = go zone passing travel next
-on_step (NoStep outcome) go = sheet_refused outcome
-
-abbrev pub on_head : Head → (CartHead → Cursor → SheetRead) → SheetRead
-on_head (GotHead h next) go = go h next
-on_head (NoHead outcome) go = sheet_refused outcome
+-- what each case of the answers says, of a head and of a step: what is read and the next cursor, to go on with, or the refusal
+abbrev pub on_part : {A : Type 0} → Result (A × Cursor) Outcome → (A → Cursor → SheetRead) → SheetRead
+on_part (Ok (part, next)) go = go part next
+on_part (Err outcome) go = sheet_refused outcome
 
 -- n steps from j on, of the k that cart i has, where those before name the zones that pass the test; then on
 unfoldable pub steps_from : List ℕ → ℕ → ℕ → ℕ → ℕ → (ℕ → Bool) → Sheet → ℕ → (Sheet → ℕ → SheetRead) → SheetRead
 steps_from s i k zero j named sh at go = go sh at
 steps_from s i k (suc n) j named sh at go =
-    on_step (step_at s sh.zones named j k (in_step i j at)) λ zone passing travel next.
-    steps_from s i k n (j + 1) (λ z. named z || eqb z zone) (with_step sh (8 * i + j) zone passing travel) next.at go
+    on_part (step_at s sh.zones named j k (in_step i j at)) λ step next.
+    steps_from s i k n (j + 1) (λ z. named z || eqb z step.zone) (put_step sh (8 * i + j) step) next.at go
 
 -- n carts from i on, with the places of the arrivals so far; then what follows the carts
 unfoldable pub carts_from : List ℕ → ℕ → ℕ → Sheet → List ℕ → ℕ → SheetRead
 carts_from s zero i sh spot at = finish s sh spot at
 carts_from s (suc n) i sh spot at =
-    on_head (head_at s (in_cart i at)) λ h next.
+    on_part (head_at s (in_cart i at)) λ h next.
     steps_from s i h.steps h.steps 0 (λ z. false) (put_cart sh i h) next.at λ sh' at'.
     carts_from s n (i + 1) sh' (set spot i h.place) at'

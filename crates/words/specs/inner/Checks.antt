@@ -1,5 +1,5 @@
 -- What is kept while checks are made one by one.
-use Rattle.std.specs.Prelude.{ℕ, ◌<◌, ◌≡◌, List, ◌⊎◌}
+use Rattle.std.specs.Prelude.{ℕ, ◌<◌, ◌≡◌, List, ◌⊎◌, Result, Ok, Err}
 use Rattle.words.specs.Lists.{All}
 use Rattle.words.specs.declared.Outcome.{Outcome}
 use Rattle.words.specs.Checks.{Check, done}
@@ -16,3 +16,8 @@ Numbered = All (λ c. 0 < c.number)
 abbrev pub Left : {R : Type 0} → (Outcome → R) → R → R → Outcome → Type 0
 Left refuse whole rest outcome =
     ((outcome ≡ done) × (whole ≡ rest)) ⊎ ((0 < outcome.number) × (whole ≡ refuse outcome))
+
+-- a part of the work answers what it read, and the rest is still to do, or the refusal that the whole answers
+abbrev pub Leaves : {R A : Type 0} → (Outcome → R) → R → (A → R) → Result A Outcome → Type 0
+Leaves refuse whole rest (Ok a) = whole ≡ rest a
+Leaves refuse whole rest (Err outcome) = (0 < outcome.number) × (whole ≡ refuse outcome)

@@ -93,8 +93,8 @@ returns-then-not-is_travel c = rw (
   sym c.is_travel.ensures ∙ c.if-not-is_travel.true,
 )
 
-pub overflow_cast-result-3 : goal.overflow_cast-result-3
-overflow_cast-result-3 c = omega (
+pub overflow_cast-step-3 : goal.overflow_cast-step-3
+overflow_cast-step-3 c = omega (
   arith,
   travel_fits c.in-Some-two_bytes-2.t
       c.args.j c.args.k (sym c.is_travel.ensures ∙ c.if-not-is_travel.false),

@@ -1,4 +1,4 @@
--- Every entry of a valid sheet's parts, used or not, is in the range of its field; and a part that is copied whole is the part.
+-- Every entry of a valid sheet's parts, used or not, is in the range of its field.
 use Prim.Native.Nat.{ℕ, ◌+◌, ◌*◌, ◌/◌, ◌%◌, ◌≤◌, ◌<◌}
 use mathlib.Core.Path.{◌≡◌, refl, sym, ◌∙◌}
 use mathlib.Core.List.{List}
@@ -11,16 +11,7 @@ use Rattle.words.proofs.Entries.{entries_is}
 use Rattle.words.proofs.Filling.{table_all}
 use Rattle.sheet.specs.Valid.{steps, Valid, ValidStep}
 use Rattle.sheet.specs.declared.Sheet.{Sheet}
-use Rattle.sheet_table.specs.inner.Parts.{part}
 use Rattle.sheet_filling.specs.inner.Filled.{Entries}
-
--- entry i of the n from a place on
-abbrev pub at : ℕ → ℕ → List ℕ → ℕ → ℕ
-at from n t i = get_or (part from n t) i 0
-
-pub copied : (from n most : ℕ) (t out : List ℕ) (i : ℕ) → Entries n most (part from n t) → i ≡ n → out ≡ table n i (at from n t) → out ≡ part from n t
-copied from n most t out i p e h =
-    h ∙ table_all n (at from n t) i e ∙ sym (entries_is (part from n t) n (at from n t) p.count (λ k _. refl))
 
 -- what holds of all entries, where step j of cart i stands at 8 * i + j
 by_step : (P : ℕ → Type 0) → ((i j : ℕ) → j < 8 → P (8 * i + j)) → (x : ℕ) → P x

@@ -1,109 +1,101 @@
-// A sheet's facts in one table, by parts in document 01's order: where each stands, and how it is read.
+// A sheet's facts in one table, and how each is read.
 #![tactic(auto)]
 
-ghost use Rattle.std.specs.Prelude.{◌≡◌, ◌+◌, ◌≤◌, ◌<◌, get_or};
-ghost use Rattle.sheet_table.specs.inner.Parts.{part, follow, cross, lane, arrival, steps, zone, passing, travel};
+ghost use Rattle.std.specs.Prelude.{◌≡◌, ◌<◌, get_or};
+ghost use Rattle.sheet_table.specs.inner.Parts.{blank};
 
-// A sheet's table: its parts one after the other, in document 01's order. Step j of cart c stands at 8 * c + j of its part.
-pub type Table = [u32; 480];
-
-pub const FOLLOW: usize = 0;
-
-pub const CROSS: usize = 24;
-
-pub const LANE: usize = 48;
-
-pub const ARRIVAL: usize = 64;
-
-pub const STEPS: usize = 80;
-
-pub const ZONE: usize = 96;
-
-pub const PASSING: usize = 224;
-
-pub const TRAVEL: usize = 352;
-
-// Entry i of the part that has n entries from a place on.
-pub fn entry(sheet: &Table, from: usize, n: usize, i: usize) -> u32
-    requires { (i < n) × (from + n ≤ 480) }
-    ensures { result ≡ get_or (part from n sheet.now) i 0 }
-{
-    sheet[from + i]
+// A sheet's table, by parts in document 01's order. Carts, zones and steps count from 0; step j of cart c stands at 8 * c + j; unused entries are 0.
+#[repr(C)]
+#[derive(Clone, Copy)]
+pub struct Table {
+    pub follow: [u32; 24],
+    pub cross: [u32; 24],
+    pub lane: [u32; 16],
+    pub arrival: [u32; 16],
+    pub steps: [u32; 16],
+    pub zone: [u32; 128],
+    pub passing: [u32; 128],
+    pub travel: [u32; 128],
 }
 
-fn number(value: u32) -> usize
-    ensures { result ≡ value }
-{
-    value as usize
-}
+impl Table {
+    // The table with every part 0: what a sheet is read into.
+    pub fn blank() -> Table
+        ensures { result ≡ blank }
+    {
+        Table {
+            follow: [0u32; 24],
+            cross: [0u32; 24],
+            lane: [0u32; 16],
+            arrival: [0u32; 16],
+            steps: [0u32; 16],
+            zone: [0u32; 128],
+            passing: [0u32; 128],
+            travel: [0u32; 128],
+        }
+    }
 
-// A byte of another table beside the sheet's numbers.
-pub fn wide(byte: u8) -> usize
-    ensures { (result ≡ byte) × (result < 256) }
-{
-    byte as usize
-}
+    // The follow gap of zone z.
+    pub fn follow(&self, z: usize) -> u32
+        requires { z < 24 }
+        ensures { result ≡ get_or self.now.follow z 0 }
+    {
+        self.follow[z]
+    }
 
-// The follow gap of zone z.
-pub fn follow(sheet: &Table, z: usize) -> u32
-    requires { z < 24 }
-    ensures { result ≡ get_or (follow sheet.now) z 0 }
-{
-    entry(sheet, FOLLOW, 24, z)
-}
+    // The cross gap of zone z.
+    pub fn cross(&self, z: usize) -> u32
+        requires { z < 24 }
+        ensures { result ≡ get_or self.now.cross z 0 }
+    {
+        self.cross[z]
+    }
 
-// The cross gap of zone z.
-pub fn cross(sheet: &Table, z: usize) -> u32
-    requires { z < 24 }
-    ensures { result ≡ get_or (cross sheet.now) z 0 }
-{
-    entry(sheet, CROSS, 24, z)
-}
+    // The lane of cart c.
+    pub fn lane(&self, c: usize) -> usize
+        requires { c < 16 }
+        ensures { result ≡ get_or self.now.lane c 0 }
+    {
+        self.lane[c] as usize
+    }
 
-// The lane of cart c.
-pub fn lane(sheet: &Table, c: usize) -> usize
-    requires { c < 16 }
-    ensures { result ≡ get_or (lane sheet.now) c 0 }
-{
-    number(entry(sheet, LANE, 16, c))
-}
+    // The arrival of cart c.
+    pub fn arrival(&self, c: usize) -> u32
+        requires { c < 16 }
+        ensures { result ≡ get_or self.now.arrival c 0 }
+    {
+        self.arrival[c]
+    }
 
-// The arrival of cart c.
-pub fn arrival(sheet: &Table, c: usize) -> u32
-    requires { c < 16 }
-    ensures { result ≡ get_or (arrival sheet.now) c 0 }
-{
-    entry(sheet, ARRIVAL, 16, c)
-}
+    // The step count of cart c.
+    pub fn steps(&self, c: usize) -> usize
+        requires { c < 16 }
+        ensures { result ≡ get_or self.now.steps c 0 }
+    {
+        self.steps[c] as usize
+    }
 
-// The step count of cart c.
-pub fn steps(sheet: &Table, c: usize) -> usize
-    requires { c < 16 }
-    ensures { result ≡ get_or (steps sheet.now) c 0 }
-{
-    number(entry(sheet, STEPS, 16, c))
-}
+    // The zone of the step at x.
+    pub fn zone(&self, x: usize) -> usize
+        requires { x < 128 }
+        ensures { result ≡ get_or self.now.zone x 0 }
+    {
+        self.zone[x] as usize
+    }
 
-// The zone of the step at x.
-pub fn zone(sheet: &Table, x: usize) -> usize
-    requires { x < 128 }
-    ensures { result ≡ get_or (zone sheet.now) x 0 }
-{
-    number(entry(sheet, ZONE, 128, x))
-}
+    // The passing time of the step at x.
+    pub fn passing(&self, x: usize) -> u32
+        requires { x < 128 }
+        ensures { result ≡ get_or self.now.passing x 0 }
+    {
+        self.passing[x]
+    }
 
-// The passing time of the step at x.
-pub fn passing(sheet: &Table, x: usize) -> u32
-    requires { x < 128 }
-    ensures { result ≡ get_or (passing sheet.now) x 0 }
-{
-    entry(sheet, PASSING, 128, x)
-}
-
-// The travel time of the step at x to the next.
-pub fn travel(sheet: &Table, x: usize) -> u32
-    requires { x < 128 }
-    ensures { result ≡ get_or (travel sheet.now) x 0 }
-{
-    entry(sheet, TRAVEL, 128, x)
+    // The travel time of the step at x to the next.
+    pub fn travel(&self, x: usize) -> u32
+        requires { x < 128 }
+        ensures { result ≡ get_or self.now.travel x 0 }
+    {
+        self.travel[x]
+    }
 }

@@ -1,41 +1,27 @@
 -- A valid sheet's parts are in range, so each is copied whole.
-use Rattle.sheet_filling.proofs.Ranges.{follow_entries, cross_entries, lane_entries, arrival_entries, steps_entries, zone_entries}
+use native.Mathlib.Omega.{arith}
+use lib.Dec.{lit<}
+use Rattle.sheet_filling.proofs.Ranges.{follow_entries, cross_entries, lane_entries, steps_entries, zone_entries}
 use Rattle.sheet_filling.proofs.Ranges.{passing_entries, travel_entries}
-use lib.Dec.{lit≤}
 use Rattle.sheet_filling.proofs.sheet_of.Goals as goal
 
-pub gaps_of-requires : goal.gaps_of-requires
-gaps_of-requires c = (lit≤ tt, follow_entries _ c.requires)
+pub halves-requires : goal.halves-requires
+halves-requires c = (lit< tt, (lit< tt, λ k l. omega (arith, (follow_entries _ c.requires).range k)))
 
-pub gaps_of-requires-2 : goal.gaps_of-requires-2
-gaps_of-requires-2 c = (lit≤ tt, cross_entries _ c.requires)
+pub halves-requires-2 : goal.halves-requires-2
+halves-requires-2 c = (lit< tt, (lit< tt, λ k l. omega (arith, (cross_entries _ c.requires).range k)))
 
-pub bytes_of-requires : goal.bytes_of-requires
-bytes_of-requires c = (lit≤ tt, lane_entries _ c.requires)
-
-pub arrivals_of-requires : goal.arrivals_of-requires
-arrivals_of-requires c = (lit≤ tt, arrival_entries _ c.requires)
+pub bytes-requires : goal.bytes-requires
+bytes-requires c = (lit< tt, (lit< tt, λ k l. omega (arith, (lane_entries _ c.requires).range k)))
 
 pub step_counts-requires : goal.step_counts-requires
 step_counts-requires c = steps_entries _ c.requires
 
-pub zones_of-requires : goal.zones_of-requires
-zones_of-requires c = (lit≤ tt, zone_entries _ c.requires)
+pub bytes-requires-2 : goal.bytes-requires-2
+bytes-requires-2 c = (lit< tt, (lit< tt, λ k l. omega (arith, (zone_entries _ c.requires).range k)))
 
-pub times_of-requires : goal.times_of-requires
-times_of-requires c = (lit≤ tt, passing_entries _ c.requires)
+pub halves-requires-3 : goal.halves-requires-3
+halves-requires-3 c = (lit< tt, (lit< tt, λ k l. omega (arith, (passing_entries _ c.requires).range k)))
 
-pub times_of-requires-2 : goal.times_of-requires-2
-times_of-requires-2 c = (lit≤ tt, travel_entries _ c.requires)
-
-pub returns : goal.returns
-returns c = rw (
-  c.gaps_of.ensures,
-  c.gaps_of-2.ensures,
-  c.bytes_of.ensures,
-  c.arrivals_of.ensures,
-  c.before.before.before.step_counts.ensures,
-  c.zones_of.ensures,
-  c.times_of.ensures,
-  c.times_of-2.ensures,
-)
+pub halves-requires-4 : goal.halves-requires-4
+halves-requires-4 c = (lit< tt, (lit< tt, λ k l. omega (arith, (travel_entries _ c.requires).range k)))

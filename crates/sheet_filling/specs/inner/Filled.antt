@@ -1,7 +1,7 @@
 -- The sheet that a table stands for, and what storing a zone's gaps, a cart or a step makes of it.
 use Rattle.std.specs.Prelude.{ℕ, ◌≤◌, ◌≡◌, List, [], ◌∷◌, length, get_or, set}
 use Rattle.sheet.specs.declared.Sheet.{Sheet}
-use Rattle.sheet_table.specs.inner.Parts as parts
+use Rattle.sheet_table.specs.declared.Table.{Table}
 
 -- a sheet of so many zones and carts, and of its parts in document 01's order
 abbrev pub made : ℕ → ℕ → List (List ℕ) → Sheet
@@ -23,20 +23,12 @@ abbrev pub parts_of : Sheet → List (List ℕ)
 parts_of sheet =
     sheet.follow ∷ sheet.cross ∷ sheet.lane ∷ sheet.arrival ∷ sheet.steps ∷ sheet.zone ∷ sheet.passing ∷ sheet.travel ∷ []
 
-abbrev pub parts_in : List ℕ → List (List ℕ)
+abbrev pub parts_in : Table → List (List ℕ)
 parts_in table =
-    parts.follow table
-    ∷ parts.cross table
-    ∷ parts.lane table
-    ∷ parts.arrival table
-    ∷ parts.steps table
-    ∷ parts.zone table
-    ∷ parts.passing table
-    ∷ parts.travel table
-    ∷ []
+    table.follow ∷ table.cross ∷ table.lane ∷ table.arrival ∷ table.steps ∷ table.zone ∷ table.passing ∷ table.travel ∷ []
 
 -- the sheet that a table stands for, with so many zones and carts
-abbrev pub sheet_in : ℕ → ℕ → List ℕ → Sheet
+abbrev pub sheet_in : ℕ → ℕ → Table → Sheet
 sheet_in zones carts table = made zones carts (parts_in table)
 
 -- entry i of part k stored

@@ -7,7 +7,7 @@ use lib.Count.{ones}
 use lib.Dec.{eqb, lit<}
 use lib.ListN.{get_or}
 use borrow.Author.Tests.{eqb-true}
-use Rattle.std.specs.Prelude.{Option, Ok, Err}
+use Rattle.std.specs.Prelude.{Ok, Err}
 use Rattle.words.specs.declared.Outcome.{Outcome}
 use Rattle.words.proofs.Tests.{and_both}
 use Rattle.words.proofs.Left.{left_suc, left_zero}
@@ -16,13 +16,8 @@ use Rattle.fields.specs.declared.Cursor.{Cursor}
 use Rattle.fields.proofs.TakingLaws.{taking_holds}
 use Rattle.sets.specs.inner.Member.{has}
 use Rattle.sets.proofs.Laws.{has_below}
-use Rattle.plan.specs.declared.Orders.{Orders}
 use Rattle.plan_lists.specs.inner.Sets.{with_cart, first_late}
 use Rattle.plan_lists.specs.inner.Scan.{Taken, got, count_taken, cart_taken, put_count, put_cart, Lists, Scanned, carts_from, lists_from}
-
--- the lists as far as the orders and the sets of carts ahead have them
-abbrev pub read_so_far : Orders → List ℕ → Option ℕ → Lists
-read_so_far orders before late = record { count = orders.count; list = orders.list; before = before; late = late }
 
 module _ (p who lead : List ℕ) (n z : ℕ) (l : Lists) (at : ℕ) where
   pub lists_end : n ≤ z → lists_from p who lead (n - z) z l at ≡ Ok (l, at)

@@ -37,6 +37,10 @@ pub record Lists : Type 0 where
 abbrev pub no_lists : Lists
 no_lists = record { count = replicate 24 0; list = replicate 384 0; before = replicate 384 0; late = None }
 
+-- the lists as orders and sets of carts ahead have them
+abbrev pub lists_in : Orders → List ℕ → Option ℕ → Lists
+lists_in orders before late = record { count = orders.count; list = orders.list; before = before; late = late }
+
 -- orders and sets of carts ahead with no list yet
 abbrev pub Blank : Orders → List ℕ → Type 0
 Blank orders before = (orders.count ≡ no_lists.count) × (orders.list ≡ no_lists.list) × (before ≡ no_lists.before)
@@ -78,7 +82,6 @@ lists_from p who lead (suc n) z l at =
     on_taken (count_taken p (get_or who z 0) at) λ k next.
     carts_from p (get_or who z 0) lead z k 0 0 (put_count l z k) next (lists_from p who lead n (z + 1))
 
--- the lists in the orders and the sets of carts ahead, read to where the scan was left
+-- the lists read to where the scan was left
 abbrev pub read_to : ListScan → Orders → List ℕ → Scanned
-read_to r orders before =
-    Ok (record { count = orders.count; list = orders.list; before = before; late = r.late }, r.at)
+read_to r orders before = Ok (lists_in orders before r.late, r.at)

@@ -203,16 +203,9 @@ fn not_out(sheet: &Table, at: &[u8; 16], c: usize) -> bool
     wide(at[c]) <= k
 }
 
-// The lowest cart that is not out; 16 where all are.
-pub fn lowest_stuck(sheet: &Table, at: &[u8; 16]) -> usize
+// The lowest cart that is not out; none where all are.
+pub fn lowest_stuck(sheet: &Table, at: &[u8; 16]) -> Option<usize>
     ensures { StuckIn (steps sheet.now) at.now result }
 {
-    let mut c = 0;
-    while c < 16 {
-        if not_out(sheet, at, c) {
-            return c;
-        }
-        c += 1;
-    }
-    c
+    (0..16).find(|c| not_out(sheet, at, *c))
 }

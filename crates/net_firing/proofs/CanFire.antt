@@ -6,8 +6,7 @@ use mathlib.Core.Bool.{Bool, true, false, false≢true}
 use mathlib.Core.List.{List}
 use native.Mathlib.Omega.{arith}
 use lib.ListN.{get_or}
-use lib.Dec.{eqb}
-use borrow.Author.Tests.{eqb-true, eq-eqb}
+use borrow.Author.Tests.{eq-eqb}
 use Rattle.sets.specs.inner.Member.{has, Within}
 use Rattle.moves.specs.System.{pos}
 use Rattle.routes.specs.Crossing.{Crossing, steps, zone}

@@ -9,9 +9,9 @@ ghost use Rattle.moves.specs.Moves.{moved};
 ghost use Rattle.sheet_table.specs.inner.Parts.{steps, zone};
 ghost use Rattle.crossing.specs.inner.Tables.{crossing_of, given_of};
 ghost use Rattle.crossing.specs.inner.Sound.{Sound};
+ghost use Rattle.crossing.specs.inner.OneProof.{sound_one};
 ghost use Rattle.judge_entering.specs.inner.Lanes.{lanes_of, front_at};
 ghost use Rattle.net_firing.specs.Firing.{FiredOut};
-ghost use Rattle.net_firing.specs.inner.OneProof.{sound_one};
 
 use judge_entering::{Lanes, front, lanes};
 use sets::carts;
@@ -36,7 +36,7 @@ struct Net<'a> {
 }
 
 impl Net<'_> {
-    ghost use Rattle.net_firing.specs.inner.Marking.{Takes, is_ahead_in, Gives, LineGives, AllPast, CanFire, Marked, Asked};
+    ghost use Rattle.net_firing.specs.inner.Marking.{crossing_in, Takes, is_ahead_in, Gives, LineGives, AllPast, CanFire, Marked, Asked};
 
     // Whether the place of the stop line before cart c's transition from p has a token, where there is such a place.
     fn line_free(&self, lines: u16, c: usize, p: usize) -> bool
@@ -49,7 +49,7 @@ impl Net<'_> {
     // Whether the transition of cart c from where it stands can fire: each place before it has a token.
     fn can_fire(&self, on: &Tokens, c: usize) -> bool
         requires { c < 16 }
-        ensures { (result ≡ true) ↔ CanFire (crossing_of self.now.sheet.now self.now.ahead.now) on.now c }
+        ensures { (result ≡ true) ↔ CanFire (crossing_in self.now) on.now c }
     {
         let k = sheet_table::steps(self.sheet, c);
         let p = usize::from(on.position[c]);
@@ -106,9 +106,9 @@ impl Net<'_> {
 
     // The transition of cart c from where it stands fires.
     fn fire(&self, on: &mut Tokens, c: usize)
-        requires { (c < 16) × Marked (crossing_of self.now.sheet.now self.now.ahead.now) on.old
-            × CanFire (crossing_of self.now.sheet.now self.now.ahead.now) on.old c }
-        ensures { Marked (crossing_of self.now.sheet.now self.now.ahead.now) on.new
+        requires { (c < 16) × Marked (crossing_in self.now) on.old
+            × CanFire (crossing_in self.now) on.old c }
+        ensures { Marked (crossing_in self.now) on.new
             × (on.new.position ≡ moved on.old.position c) }
     {
         let p = usize::from(on.position[c]);
@@ -126,8 +126,8 @@ impl Net<'_> {
 
     // Every cart is asked in turn, and fires its transition where that can fire; answers whether any has fired.
     fn round(&self, on: &mut Tokens) -> bool
-        requires { Marked (crossing_of self.now.sheet.now self.now.ahead.now) on.old }
-        ensures { Asked (crossing_of self.now.sheet.now self.now.ahead.now) on.old on.new result }
+        requires { Marked (crossing_in self.now) on.old }
+        ensures { Asked (crossing_in self.now) on.old on.new result }
     {
         let mut fired = false;
         for c in 0..16 {
@@ -143,13 +143,10 @@ impl Net<'_> {
     fn some_inside(&self, position: &[u8; 16]) -> bool
         ensures { (result ≡ false) ↔ AllPast (steps self.now.sheet.now) position.now 16 }
     {
-        for c in 0..16 {
+        (0..16).any(|c| {
             let k = sheet_table::steps(self.sheet, c);
-            if 0 < k && usize::from(position[c]) <= k {
-                return true;
-            }
-        }
-        false
+            0 < k && usize::from(position[c]) <= k
+        })
     }
 }
 

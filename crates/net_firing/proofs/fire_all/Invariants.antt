@@ -1,5 +1,4 @@
 -- The loop keeps the marking of a firing sequence; each round in which a transition has fired leaves fewer moves.
-use mathlib.Core.Path.{◌≡◌}
 use Rattle.crossing.specs.inner.Tables.{crossing_of}
 use Rattle.net_firing.specs.inner.Marking.{Marked}
 use Rattle.net_firing.proofs.Rounds.{moves_left}

@@ -1,8 +1,6 @@
 -- Each way out says whether the transition can fire, by the law for its test.
-use Prim.Native.Nat.{◌<◌}
-use mathlib.Core.Path.{◌≡◌}
 use native.Mathlib.Omega.{arith}
-use borrow.Author.Tests.{eqb-true, eq-eqb, ltb-true, lt-ltb}
+use borrow.Author.Tests.{eqb-true, eq-eqb, ltb-true}
 use Rattle.net_firing.proofs.CanFire.{x_128, held_says, zone_says, past_says}
 use Rattle.net_firing.proofs.Net.can_fire.Goals as goal
 

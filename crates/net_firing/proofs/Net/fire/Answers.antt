@@ -46,7 +46,7 @@ returns c =
     ] in
     -- past the second those of the pair places, or of the line, are given
     let given : PairsGiven X mid.pairs c.args.c p after.pairs × LinesFired X mid.lines c.args.c p after.lines
-        × (length after.pairs ≡ 128) × (after.position ≡ mid.position)
+    × (length after.pairs ≡ 128) × (after.position ≡ mid.position)
     = elim c.if-p-gt0.branch [
       | then-p-gt0 w ↦ rw w.on-is (
         pairs_given _ _ net.sound _ c.requires.0 mid.pairs _ p w.if-p-gt0.true most _ w.zone-left.ensures w.give_pairs.ensures.0,
@@ -64,6 +64,8 @@ returns c =
           )
     ] in
     let on : set after.position c.args.c (p + 1) ≡ moved old.position c.args.c
-    = rw (given.3, taken.3) (moved_on old.position c.args.c _ (omega (arith, from))) in
-    (marked_fired _ net.sound.only old c.requires.1 _ c.requires.0 c.requires.2 mid.pairs _ (rw from at taken.0) (rw from at given.0)
-        (rw (from, taken.2) at given.1) on given.2, on)
+    = rw (given.3, taken.3) (moved_on old.position c.args.c _ (omega (arith, from))) in (
+      marked_fired _ net.sound.only old c.requires.1 _ c.requires.0 c.requires.2 mid.pairs _ (rw from at taken.0) (rw from at given.0)
+          (rw (from, taken.2) at given.1) on given.2,
+      on,
+    )

@@ -1,5 +1,4 @@
-use mathlib.Core.Path.{◌≡◌, sym, ◌∙◌}
-use native.Mathlib.Omega.{arith}
+use mathlib.Core.Path.{sym, ◌∙◌}
 use Rattle.net_firing.proofs.Tables.{line_none, line_skip, line_more}
 use Rattle.net_firing.proofs.Net.give_line.Goals as goal
 use Rattle.net_firing.proofs.Net.give_line.Goals.{then-front-c, else-front-c}

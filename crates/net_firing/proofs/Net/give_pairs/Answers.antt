@@ -1,4 +1,3 @@
-use mathlib.Core.Path.{◌≡◌}
 use native.Mathlib.Omega.{arith}
 use lib.ListN.{length-set}
 use Rattle.sheet_table.specs.inner.Parts.{zone}
@@ -16,9 +15,10 @@ loop-y-preserved c = let start = c.args in
     let so_far = c.loop-y.invariant.0 in
     let is = c.is_ahead.ensures in
     elim c.if-is_ahead.branch [
-      | then-is_ahead w ↦ rw w.pairs-is
-          (given_more (zone net.sheet.now) net.ahead.now start.pairs.now _ _ _ now so_far _ is w.if-is_ahead.true (omega arith) _ w.with.ensures,
-          simp length-set (omega arith))
+      | then-is_ahead w ↦ rw w.pairs-is (
+        given_more (zone net.sheet.now) net.ahead.now start.pairs.now _ _ _ now so_far _ is w.if-is_ahead.true (omega arith) _ w.with.ensures,
+        simp length-set (omega arith),
+      )
       | else-is_ahead w ↦ rw w.pairs-is
           (given_skip (zone net.sheet.now) net.ahead.now start.pairs.now _ _ _ now so_far _ is w.if-is_ahead.false, c.loop-y.invariant.1)
     ]

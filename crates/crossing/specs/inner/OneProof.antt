@@ -1,4 +1,4 @@
--- What is asked of a crossing has one proof at most, as a fact beside a struct's fields must: a zone has one place on a route that names it once.
+-- What is asked of a crossing has one proof at most, as a fact beside the fields of a struct must have: a route that names a zone once names it at one place.
 use Rattle.std.specs.Prelude.{ℕ, ◌≡◌, ◌<◌, length, get_or}
 use Rattle.std.specs.Coded.{le_prop}
 use Rattle.std.proofs.Common.{sym, ◌∙◌}

@@ -12,8 +12,9 @@ use Rattle.crossing.specs.Plans.{sheet_given}
 use Rattle.crossing.proofs.Sheets.{sheet_sound}
 use Rattle.crossing.proofs.Plans.{plan_sound}
 use Rattle.sheet_filling.specs.inner.Filled.{sheet_in}
+use Rattle.sheet_table.specs.declared.Table.{Table}
 
-module _ (n m : ℕ) (table : List ℕ) where
+module _ (n m : ℕ) (table : Table) where
   pub crossing_is : (ahead : List ℕ) → crossing_of table ahead ≡ sheet_crossing (sheet_in n m table) ahead
   crossing_is ahead = refl
 

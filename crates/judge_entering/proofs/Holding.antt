@@ -14,8 +14,9 @@ use Rattle.crossing.specs.inner.Tables.{fronts_of, crossing_by, crossing_of, Fro
 use Rattle.crossing.proofs.Fronts.{fronts_16, gone_free}
 use Rattle.judge_entering.specs.inner.Lanes.{lanes_of, front_at}
 use Rattle.judge_entering.proofs.LaneLaws.{front_entry}
+use Rattle.sheet_table.specs.declared.Table.{Table}
 
-module _ (sheet lanes : List ℕ) (are : lanes ≡ lanes_of sheet) (c : ℕ) (l : c < 16) where
+module _ (sheet : Table) (lanes : List ℕ) (are : lanes ≡ lanes_of sheet) (c : ℕ) (l : c < 16) where
   -- the lanes' table has the table of fronts
   pub front_told : front_at lanes c ≡ get_or (fronts_of sheet) c 0
   front_told = ap (λ (table : List ℕ). front_at table c) are ∙ front_entry sheet c l

@@ -20,8 +20,9 @@ use Rattle.crossing.specs.inner.Tables.{crossing_by, fronts_of}
 use Rattle.crossing.proofs.Tables.{steps_is}
 use Rattle.crossing.proofs.Fronts.{fronts_are, fronts_absent}
 use Rattle.judge_entering.specs.inner.Lanes.{on_lane, mates_of, lanes_of, front_at}
+use Rattle.sheet_table.specs.declared.Table.{Table}
 
-module _ (sheet : List ℕ) where
+module _ (sheet : Table) where
   abbrev pub lane_of : ℕ → ℕ
   lane_of c = get_or (parts.lane sheet) c 0
 

@@ -15,6 +15,7 @@ use Rattle.times.proofs.Largest.{largest_most, largest_least, largest_same}
 use Rattle.sheet_table.specs.inner.Parts.{follow, cross, zone}
 use Rattle.crossing.specs.Plans.{given_by}
 use Rattle.judge_entering.specs.inner.Times.{clear_by, clear_of, latest, Enterable}
+use Rattle.sheet_table.specs.declared.Table.{Table}
 
 module _ (rule : ℕ → ℕ) where
   -- the members' times
@@ -76,7 +77,7 @@ part_of true false time near far is-near is-far = omega (arith, is-far refl refl
 part_of false mine time near far is-near is-far = refl
 
 -- the latest over the carts of the same lane, by the follow gap, and then over the others, by the cross gap
-module _ (sheet ahead : List ℕ) (mates : ℕ) (leave : List ℕ) (x c : ℕ) (enterable : Enterable sheet ahead mates leave x c) where
+module _ (sheet : Table) (ahead : List ℕ) (mates : ℕ) (leave : List ℕ) (x c : ℕ) (enterable : Enterable sheet ahead mates leave x c) where
   abbrev z : ℕ
   z = get_or (zone sheet) x 0
 

@@ -25,6 +25,7 @@ use Rattle.crossing.proofs.Fronts.{fronts_are}
 use Rattle.judge_entering.specs.inner.Lanes.{present_on, present_lanes, present_mates, member_before, Foremost, NextBehind, front_time}
 use Rattle.judge_entering.specs.inner.Times.{AtMost}
 use Rattle.judge_entering.proofs.LaneLaws.{lane_of, routes, has_steps}
+use Rattle.sheet_table.specs.declared.Table.{Table}
 
 -- ---- the member next below
 
@@ -137,7 +138,7 @@ highest_same one other (suc n) same = rw (same n (omega arith), highest_same one
 
 -- ---- the sets of a sheet's lanes
 
-module _ (sheet : List ℕ) where
+module _ (sheet : Table) where
   -- who has steps
   abbrev Present : ℕ → Type 0
   Present d = 0 < get_or (parts.steps sheet) d 0

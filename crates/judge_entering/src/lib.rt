@@ -35,10 +35,10 @@ pub fn lanes(sheet: &Table) -> Lanes
     let mut lanes = [0u16; 32];
     let mut latest = [0u16; 16];
     for c in 0..16 {
-        let l = sheet_table::lane(sheet, c);
+        let l = sheet.lane(c);
         lanes[l] = carts::with(lanes[l], c);
         // An absent cart is on no lane.
-        if 0 < sheet_table::steps(sheet, c) {
+        if 0 < sheet.steps(c) {
             lanes[16 + c] = latest[l];
             latest[l] = c as u16 + 1;
         }
@@ -51,7 +51,7 @@ pub fn mates(sheet: &Table, lanes: &Lanes, c: usize) -> u16
     requires { (c < 16) × AtMost 15 (lane sheet.now) × (lanes.now ≡ lanes_of sheet.now) }
     ensures { result ≡ mates_of sheet.now c }
 {
-    lanes[sheet_table::lane(sheet, c)]
+    lanes[sheet.lane(c)]
 }
 
 // For each lane the set of the carts on it; an absent cart is on none.
@@ -61,8 +61,8 @@ pub fn present_lanes(sheet: &Table) -> [u16; 16]
 {
     let mut on = [0u16; 16];
     for c in 0..16 {
-        if 0 < sheet_table::steps(sheet, c) {
-            let l = sheet_table::lane(sheet, c);
+        if 0 < sheet.steps(c) {
+            let l = sheet.lane(c);
             on[l] = carts::with(on[l], c);
         }
     }
@@ -107,7 +107,7 @@ pub fn front_gone(lanes: &Lanes, at: &[u8; 16], c: usize) -> bool
 // Whether the lane holds cart c, whatever the orders in the zones: neither it nor the cart in front of it has made its first move.
 pub fn lane_holds(lanes: &Lanes, at: &[u8; 16], c: usize) -> bool
     requires { (c < 16) × (front_at lanes.now c ≤ 16) }
-    ensures { (sheet ahead : List ℕ) → lanes.now ≡ lanes_of sheet → result ≡ lane_holds (crossing_of sheet ahead) at.now c }
+    ensures { (sheet : _) (ahead : List ℕ) → lanes.now ≡ lanes_of sheet → result ≡ lane_holds (crossing_of sheet ahead) at.now c }
 {
     if 0 < at[c] {
         return false;
@@ -158,11 +158,11 @@ pub fn enter_zone(
     ensures { (result ≡ latest (clear_of sheet.now leave.now (get_or (zone sheet.now) x 0) c)
         (get_or ahead.now x 0) ready) × (enter.new ≡ set enter.old x result) }
 {
-    let z = sheet_table::zone(sheet, x);
+    let z = sheet.zone(x);
     let others = carts::less(ahead[x], mates);
-    let follow = sheet_table::follow(sheet, z);
+    let follow = sheet.follow(z);
     let clear = latest_clear(leave, z, follow, carts::less(ahead[x], others), ready);
-    let time = latest_clear(leave, z, sheet_table::cross(sheet, z), others, clear);
+    let time = latest_clear(leave, z, sheet.cross(z), others, clear);
     enter[x] = time;
     time
 }

@@ -17,8 +17,9 @@ use Rattle.crossing.specs.inner.Tables.{fronts_of, crossing_by, crossing_of}
 use Rattle.crossing.proofs.Fronts.{front_lower}
 use Rattle.judge_entering.specs.inner.Lanes.{front_time}
 use Rattle.judge_entering.specs.Times.{times_of}
+use Rattle.sheet_table.specs.declared.Table.{Table}
 
-module _ (sheet ahead enter : List ℕ) (c : ℕ) where
+module _ (sheet : Table) (ahead enter : List ℕ) (c : ℕ) where
   abbrev X : Crossing
   X = crossing_of sheet ahead
 

@@ -32,8 +32,9 @@ use Rattle.judge_one_move.specs.inner.Standing.{Standing}
 use Rattle.judge_one_move.specs.inner.Running.{ZoneLeft, GoneIn, CanGoOn, GoneOn, CanGoOut, Running}
 use Rattle.judge_one_move.proofs.Fronts.{front_enters_lem}
 use Rattle.judge_one_move.proofs.Moving.{running_first, running_next, running_out}
+use Rattle.sheet_table.specs.declared.Table.{Table}
 
-module _ (sheet ahead at left : List ℕ) (standing : Standing (crossing_of sheet ahead) at left) (c : ℕ) (l : c < 16) where
+module _ (sheet : Table) (ahead at left : List ℕ) (standing : Standing (crossing_of sheet ahead) at left) (c : ℕ) (l : c < 16) where
   abbrev X : Crossing
   X = crossing_of sheet ahead
 

@@ -30,7 +30,7 @@ pub fn may_enter(sheet: &Table, ahead: &[u16; 128], left: &[u16; 24], x: usize) 
     requires { (x < 128) × (get_or (zone sheet.now) x 0 < 24) }
     ensures { (result ≡ true) ↔ Within (get_or ahead.now x 0) (get_or left.now (get_or (zone sheet.now) x 0) 0) }
 {
-    let z = sheet_table::zone(sheet, x);
+    let z = sheet.zone(x);
     carts::within(ahead[x], left[z])
 }
 
@@ -65,7 +65,7 @@ pub fn may_move(
     requires { Standing (crossing_of sheet.now ahead.now) at.now left.now × (c < 16) × (lanes.now ≡ lanes_of sheet.now) }
     ensures { (result ≡ true) ↔ Permitted (system (crossing_of sheet.now ahead.now)) at.now c }
 {
-    let k = sheet_table::steps(sheet, c);
+    let k = sheet.steps(c);
     let p = usize::from(at[c]);
     if p < k {
         return may_go_in(sheet, lanes, ahead, at, left, c);
@@ -120,7 +120,7 @@ impl Run {
         ensures others { self.new ≡ record self.old { enter = self.new.enter } }
     {
         let line = front_enters(mates, &self.enter, c);
-        let ready = sheet_table::arrival(sheet, c).max(line);
+        let ready = sheet.arrival(c).max(line);
         enter_zone(
             sheet,
             ahead,
@@ -141,8 +141,8 @@ impl Run {
         ensures others { self.new ≡ record self.old { left = self.new.left; leave = self.new.leave; enter = self.new.enter } }
     {
         let w = x - 1;
-        let travel = sheet_table::travel(sheet, w);
-        let ready = self.enter[w] + sheet_table::passing(sheet, w) + travel;
+        let travel = sheet.travel(w);
+        let ready = self.enter[w] + sheet.passing(w) + travel;
         let time = enter_zone(
             sheet,
             ahead,
@@ -153,7 +153,7 @@ impl Run {
             c,
             ready,
         );
-        self.leave_zone(sheet_table::zone(sheet, w), c, time - travel);
+        self.leave_zone(sheet.zone(w), c, time - travel);
     }
 
     // Cart c goes out of the zone of its last step, at x.
@@ -163,8 +163,8 @@ impl Run {
             (get_or self.old.enter x 0 + get_or (passing sheet.now) x 0) }
         ensures others { self.new ≡ record self.old { left = self.new.left; leave = self.new.leave } }
     {
-        let time = self.enter[x] + sheet_table::passing(sheet, x);
-        self.leave_zone(sheet_table::zone(sheet, x), c, time);
+        let time = self.enter[x] + sheet.passing(x);
+        self.leave_zone(sheet.zone(x), c, time);
     }
 
     // The move just made is cart c's: it stands one step further, and is the next in the order of moves.

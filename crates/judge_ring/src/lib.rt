@@ -41,8 +41,8 @@ pub fn wanted_zone(sheet: &Table, at: &[u8; 16], c: usize) -> usize
     ensures { result ≡ wanted_in (steps sheet.now) (zone sheet.now) at.now c }
 {
     let p = at[c] as usize;
-    if p < sheet_table::steps(sheet, c) {
-        return sheet_table::zone(sheet, 8 * c + p);
+    if p < sheet.steps(c) {
+        return sheet.zone(8 * c + p);
     }
     0
 }
@@ -178,7 +178,7 @@ fn not_out(sheet: &Table, at: &[u8; 16], c: usize) -> bool
     requires { c < 16 }
     ensures { (result ≡ true) ↔ NotOutIn (steps sheet.now) at.now c }
 {
-    let k = sheet_table::steps(sheet, c);
+    let k = sheet.steps(c);
     0 < k && at[c] as usize <= k
 }
 

@@ -25,6 +25,7 @@ use Rattle.judge_entering.specs.inner.Lanes.{lanes_of, front_at}
 use Rattle.judge_entering.proofs.Holding.{front_told}
 use Rattle.net_firing.specs.declared.Tokens.{Tokens}
 use Rattle.net_firing.specs.inner.Marking.{tokens, CanFire}
+use Rattle.sheet_table.specs.declared.Table.{Table}
 
 module _ (X : Crossing) (t : Tokens) (c : ℕ) where
   abbrev p : ℕ
@@ -54,7 +55,7 @@ module _ (X : Crossing) (t : Tokens) (c : ℕ) where
   fire_line : CanFire X t c → LineHas
   fire_line can d first f = is_one _ (rw (first, own_move c 0) at (can.tokens (line d c) f))
 
-module _ (sheet ahead : List ℕ) (sound : Sound (crossing_of sheet ahead) (given_of sheet)) (c : ℕ) (l : c < 16) where
+module _ (sheet : Table) (ahead : List ℕ) (sound : Sound (crossing_of sheet ahead) (given_of sheet)) (c : ℕ) (l : c < 16) where
   abbrev X : Crossing
   X = crossing_of sheet ahead
 

@@ -31,6 +31,7 @@ use Rattle.judge_entering.proofs.Holding.{front_told}
 use Rattle.net_firing.specs.declared.Tokens.{Tokens}
 use Rattle.net_firing.specs.inner.Marking.{tokens, Takes, is_ahead_in, Gives, LineGives, CanFire, Marked}
 use Rattle.net_firing.proofs.CanFire.{counted, before_ahead}
+use Rattle.sheet_table.specs.declared.Table.{Table}
 
 pub moved_on : (position : List ℕ) (c n : ℕ) → n ≡ suc (pos position c) → set position c n ≡ moved position c
 moved_on position c n is = ap (set position c) is
@@ -103,7 +104,7 @@ module _ (X : Crossing) where
 
 -- ---- by a sheet's tables
 
-module _ (sheet ahead : List ℕ) (sound : Sound (crossing_of sheet ahead) (given_of sheet)) (c : ℕ) (l : c < 16) where
+module _ (sheet : Table) (ahead : List ℕ) (sound : Sound (crossing_of sheet ahead) (given_of sheet)) (c : ℕ) (l : c < 16) where
   abbrev X : Crossing
   X = crossing_of sheet ahead
 

@@ -51,7 +51,7 @@ impl Net<'_> {
         requires { c < 16 }
         ensures { (result ≡ true) ↔ CanFire (crossing_in self.now) on.now c }
     {
-        let k = sheet_table::steps(self.sheet, c);
+        let k = self.sheet.steps(c);
         let p = usize::from(on.position[c]);
         if p < k {
             let x = 8 * c + p;
@@ -66,7 +66,7 @@ impl Net<'_> {
         requires { (y < 128) × (c < 16) }
         ensures { result ≡ is_ahead_in (zone self.now.sheet.now) self.now.ahead.now z c y }
     {
-        sheet_table::zone(self.sheet, y) == z && carts::has(self.ahead[y], c)
+        self.sheet.zone(y) == z && carts::has(self.ahead[y], c)
     }
 
     // The pair places before the step at x lose their tokens.
@@ -112,11 +112,11 @@ impl Net<'_> {
             × (on.new.position ≡ moved on.old.position c) }
     {
         let p = usize::from(on.position[c]);
-        if p < sheet_table::steps(self.sheet, c) {
+        if p < self.sheet.steps(c) {
             self.take_pairs(&mut on.pairs, 8 * c + p);
         }
         if 0 < p {
-            let left = sheet_table::zone(self.sheet, 8 * c + p - 1);
+            let left = self.sheet.zone(8 * c + p - 1);
             self.give_pairs(&mut on.pairs, left, c);
         } else {
             on.lines = self.give_line(carts::without(on.lines, c), c);
@@ -144,7 +144,7 @@ impl Net<'_> {
         ensures { (result ≡ false) ↔ AllPast (steps self.now.sheet.now) position.now 16 }
     {
         (0..16).any(|c| {
-            let k = sheet_table::steps(self.sheet, c);
+            let k = self.sheet.steps(c);
             0 < k && usize::from(position[c]) <= k
         })
     }

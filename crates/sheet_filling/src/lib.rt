@@ -1,5 +1,5 @@
 // A sheet's table filled, and the sheet that it stands for as a struct.
-#![tactic(auto)]
+#![tactic(auto, unfolding(sheet_table::specs::inner::Parts::follow, sheet_table::specs::inner::Parts::cross, sheet_table::specs::inner::Parts::lane, sheet_table::specs::inner::Parts::arrival, sheet_table::specs::inner::Parts::steps, sheet_table::specs::inner::Parts::zone, sheet_table::specs::inner::Parts::passing, sheet_table::specs::inner::Parts::travel))]
 
 ghost use Rattle.std.specs.Prelude.{ℕ, ◌<◌, ◌≡◌, length, get_or};
 ghost use Rattle.sheet.specs.Valid.{Valid};

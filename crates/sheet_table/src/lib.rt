@@ -1,8 +1,8 @@
 // A sheet's facts in one table, and how each is read.
-#![tactic(auto)]
+#![tactic(auto, unfolding(crate::specs::inner::Parts::follow, crate::specs::inner::Parts::cross, crate::specs::inner::Parts::lane, crate::specs::inner::Parts::arrival, crate::specs::inner::Parts::steps, crate::specs::inner::Parts::zone, crate::specs::inner::Parts::passing, crate::specs::inner::Parts::travel))]
 
 ghost use Rattle.std.specs.Prelude.{◌≡◌, ◌<◌, get_or};
-ghost use Rattle.sheet_table.specs.inner.Parts.{blank};
+ghost use Rattle.sheet_table.specs.inner.Parts.{blank, follow, cross, lane, arrival, steps, zone, passing, travel};
 
 // A sheet's table, by parts in document 01's order. Carts, zones and steps count from 0; step j of cart c stands at 8 * c + j; unused entries are 0.
 #[repr(C)]
@@ -38,7 +38,7 @@ impl Table {
     // The follow gap of zone z.
     pub fn follow(&self, z: usize) -> u32
         requires { z < 24 }
-        ensures { result ≡ get_or self.now.follow z 0 }
+        ensures { result ≡ get_or (follow self.now) z 0 }
     {
         self.follow[z]
     }
@@ -46,7 +46,7 @@ impl Table {
     // The cross gap of zone z.
     pub fn cross(&self, z: usize) -> u32
         requires { z < 24 }
-        ensures { result ≡ get_or self.now.cross z 0 }
+        ensures { result ≡ get_or (cross self.now) z 0 }
     {
         self.cross[z]
     }
@@ -54,7 +54,7 @@ impl Table {
     // The lane of cart c.
     pub fn lane(&self, c: usize) -> usize
         requires { c < 16 }
-        ensures { result ≡ get_or self.now.lane c 0 }
+        ensures { result ≡ get_or (lane self.now) c 0 }
     {
         self.lane[c] as usize
     }
@@ -62,7 +62,7 @@ impl Table {
     // The arrival of cart c.
     pub fn arrival(&self, c: usize) -> u32
         requires { c < 16 }
-        ensures { result ≡ get_or self.now.arrival c 0 }
+        ensures { result ≡ get_or (arrival self.now) c 0 }
     {
         self.arrival[c]
     }
@@ -70,7 +70,7 @@ impl Table {
     // The step count of cart c.
     pub fn steps(&self, c: usize) -> usize
         requires { c < 16 }
-        ensures { result ≡ get_or self.now.steps c 0 }
+        ensures { result ≡ get_or (steps self.now) c 0 }
     {
         self.steps[c] as usize
     }
@@ -78,7 +78,7 @@ impl Table {
     // The zone of the step at x.
     pub fn zone(&self, x: usize) -> usize
         requires { x < 128 }
-        ensures { result ≡ get_or self.now.zone x 0 }
+        ensures { result ≡ get_or (zone self.now) x 0 }
     {
         self.zone[x] as usize
     }
@@ -86,7 +86,7 @@ impl Table {
     // The passing time of the step at x.
     pub fn passing(&self, x: usize) -> u32
         requires { x < 128 }
-        ensures { result ≡ get_or self.now.passing x 0 }
+        ensures { result ≡ get_or (passing self.now) x 0 }
     {
         self.passing[x]
     }
@@ -94,7 +94,7 @@ impl Table {
     // The travel time of the step at x to the next.
     pub fn travel(&self, x: usize) -> u32
         requires { x < 128 }
-        ensures { result ≡ get_or self.now.travel x 0 }
+        ensures { result ≡ get_or (travel self.now) x 0 }
     {
         self.travel[x]
     }

@@ -10,6 +10,7 @@ use Rattle.times.specs.Times.{Given}
 use Rattle.sheet_table.specs.inner.Parts as parts
 use Rattle.sheet.specs.declared.Sheet.{Sheet}
 use Rattle.crossing.specs.Plans.{route_of, given_by}
+use Rattle.sheet_table.specs.declared.Table.{Table}
 
 -- for each of 16 carts one more than the cart next in front of it on its lane; 0 where there is none, and for an absent cart
 unfoldable pub fronts_by : List ℕ → List ℕ → List ℕ → List ℕ
@@ -25,13 +26,13 @@ crossing_by steps zone front ahead = record {
 }
 
 -- the same of a sheet's table
-abbrev pub fronts_of : List ℕ → List ℕ
+abbrev pub fronts_of : Table → List ℕ
 fronts_of sheet = fronts_by (parts.steps sheet) (parts.zone sheet) (parts.lane sheet)
 
-abbrev pub crossing_of : List ℕ → List ℕ → Crossing
+abbrev pub crossing_of : Table → List ℕ → Crossing
 crossing_of sheet ahead = crossing_by (parts.steps sheet) (parts.zone sheet) (fronts_of sheet) ahead
 
-abbrev pub given_of : List ℕ → Given
+abbrev pub given_of : Table → Given
 given_of sheet =
     given_by (parts.lane sheet) (parts.arrival sheet) (parts.passing sheet) (parts.travel sheet) (parts.follow sheet) (parts.cross sheet)
 

@@ -10,4 +10,4 @@ pub bounds-lanes-lane : goal.bounds-lanes-lane
 bounds-lanes-lane c = omega (arith, c.lane.ensures, c.requires.1 c.args.c)
 
 pub returns : goal.returns
-returns c = mates_entry _ _ _ _ (omega (arith, c.lane.ensures, c.requires.1 c.args.c)) c.lane.ensures c.requires.2
+returns c = mates_entry c.args.sheet.now _ _ _ (omega (arith, c.lane.ensures, c.requires.1 c.args.c)) c.lane.ensures c.requires.2

@@ -16,6 +16,7 @@ use Rattle.judge_entering.specs.inner.Lanes.{member_before, front_time}
 use Rattle.judge_entering.specs.Times.{times_of}
 use Rattle.judge_entering.specs.inner.Times.{clear_of, latest, AtMost, Enterable}
 use Rattle.judge_one_move.specs.declared.Run.{Run}
+use Rattle.sheet_table.specs.declared.Table.{Table}
 
 -- no move is made: all carts are at the start
 abbrev pub no_moves : Run
@@ -39,7 +40,7 @@ pub record ZoneLeft (left leave more after : List ℕ) (z c time : ℕ) : Type 0
   pub stored : after ≡ set leave (16 * z + c) time
 
 -- cart c has gone from its lane into the zone of its first step: as soon as it has arrived, the cart in front has entered, and it is clear
-pub record GoneIn (sheet ahead : List ℕ) (mates : ℕ) (leave enter entered : List ℕ) (c : ℕ) : Type 0 where
+pub record GoneIn (sheet : Table) (ahead : List ℕ) (mates : ℕ) (leave enter entered : List ℕ) (c : ℕ) : Type 0 where
   pub time : ℕ
   pub time_is : time
       ≡ latest (clear_of sheet leave (get_or (zone sheet) (8 * c) 0) c) (get_or ahead (8 * c) 0)
@@ -47,7 +48,7 @@ pub record GoneIn (sheet ahead : List ℕ) (mates : ℕ) (leave enter entered : 
   pub entered_is : entered ≡ set enter (8 * c) time
 
 -- what going on from the zone of its step at x - 1 into that of its step at x asks of the tables, for cart c
-pub record CanGoOn (sheet ahead : List ℕ) (mates : ℕ) (left leave enter : List ℕ) (c x : ℕ) : Type 0 where
+pub record CanGoOn (sheet : Table) (ahead : List ℕ) (mates : ℕ) (left leave enter : List ℕ) (c x : ℕ) : Type 0 where
   pub enterable : Enterable sheet ahead mates leave x c
   pub not_first : 0 < x
   pub zone_24 : get_or (zone sheet) (x - 1) 0 < 24
@@ -57,7 +58,7 @@ pub record CanGoOn (sheet ahead : List ℕ) (mates : ℕ) (left leave enter : Li
   pub travel_most : get_or (travel sheet) (x - 1) 0 ≤ most_time
 
 -- cart c has gone on so: it is in the next zone as soon as it is ready and clear, and has left the other at that time less the travel time
-pub record GoneOn (sheet ahead left leave enter more after entered : List ℕ) (c x : ℕ) : Type 0 where
+pub record GoneOn (sheet : Table) (ahead left leave enter more after entered : List ℕ) (c x : ℕ) : Type 0 where
   pub time : ℕ
   pub time_is : time
       ≡ latest (clear_of sheet leave (get_or (zone sheet) x 0) c) (get_or ahead x 0)
@@ -66,7 +67,7 @@ pub record GoneOn (sheet ahead left leave enter more after entered : List ℕ) (
   pub zone_left : ZoneLeft left leave more after (get_or (zone sheet) (x - 1) 0) c (time - get_or (travel sheet) (x - 1) 0)
 
 -- what going out of the zone of its last step, at x, asks of the tables, for cart c
-pub record CanGoOut (sheet left enter : List ℕ) (c x : ℕ) : Type 0 where
+pub record CanGoOut (sheet : Table) (left enter : List ℕ) (c x : ℕ) : Type 0 where
   pub cart_16 : c < 16
   pub step_128 : x < 128
   pub zone_24 : get_or (zone sheet) x 0 < 24

@@ -8,6 +8,7 @@ use Rattle.routes.specs.Moves.{moves_of}
 use Rattle.sheet_table.specs.inner.Parts as parts
 use Rattle.crossing.specs.inner.Tables.{fronts_of, crossing_by}
 use Rattle.judge_entering.specs.inner.Lanes.{lanes_of}
+use Rattle.sheet_table.specs.declared.Table.{Table}
 
 -- the zone that cart c wants at its position; 0 where it wants none
 abbrev pub wanted_in : List ℕ → List ℕ → List ℕ → ℕ → ℕ
@@ -39,11 +40,11 @@ point_in steps zone front count list at left c =
     pick (lane_holds (crossing_by steps zone front []) at c) (get_or front c 0 - 1) (first_not_left count list left (wanted_in steps zone at c))
 
 -- the same of a sheet's table
-abbrev pub point_of : List ℕ → List ℕ → List ℕ → List ℕ → List ℕ → ℕ → ℕ
+abbrev pub point_of : Table → List ℕ → List ℕ → List ℕ → List ℕ → ℕ → ℕ
 point_of sheet = point_in (parts.steps sheet) (parts.zone sheet) (fronts_of sheet)
 
 -- what pointing asks of the tables
-pub record Pointable (sheet lanes count list at : List ℕ) : Type 0 where
+pub record Pointable (sheet : Table) (lanes count list at : List ℕ) : Type 0 where
   pub lanes_are : lanes ≡ lanes_of sheet
   pub wanting : Wanting (parts.steps sheet) (parts.zone sheet) at
   pub listable : AllListable count list

@@ -1,6 +1,7 @@
 -- The sheet that a table stands for, and what storing a zone's gaps, a cart or a step makes of it.
 use Rattle.std.specs.Prelude.{ℕ, ◌≤◌, ◌≡◌, List, [], ◌∷◌, length, get_or, set}
 use Rattle.sheet.specs.declared.Sheet.{Sheet}
+use Rattle.sheet_table.specs.inner.Parts as parts
 use Rattle.sheet_table.specs.declared.Table.{Table}
 
 -- a sheet of so many zones and carts, and of its parts in document 01's order
@@ -25,7 +26,15 @@ parts_of sheet =
 
 abbrev pub parts_in : Table → List (List ℕ)
 parts_in table =
-    table.follow ∷ table.cross ∷ table.lane ∷ table.arrival ∷ table.steps ∷ table.zone ∷ table.passing ∷ table.travel ∷ []
+    parts.follow table
+    ∷ parts.cross table
+    ∷ parts.lane table
+    ∷ parts.arrival table
+    ∷ parts.steps table
+    ∷ parts.zone table
+    ∷ parts.passing table
+    ∷ parts.travel table
+    ∷ []
 
 -- the sheet that a table stands for, with so many zones and carts
 abbrev pub sheet_in : ℕ → ℕ → Table → Sheet

@@ -1,7 +1,7 @@
 -- What the loops that take and give tokens make of the tables, entry by entry.
 use Prim.Native.Nat.{ℕ, ◌+◌, ◌<◌}
 use mathlib.Core.Path.{◌≡◌, refl, sym, ap, ◌∙◌}
-use mathlib.Core.Bool.{Bool, true, false, not, ◌&&◌, ◌||◌, and-true, and-false, or-false}
+use mathlib.Core.Bool.{Bool, true, false, ◌&&◌, ◌||◌, and-true, and-false, or-false}
 use mathlib.Core.List.{List}
 use native.Mathlib.Decide.{ℕ_discrete}
 use native.Mathlib.Omega.{arith}
@@ -10,16 +10,9 @@ use lib.Seq.{get_or-set_same, get_or-set_other}
 use lib.Dec.{ltb, eqb}
 use borrow.Author.Tests.{lt-ltb, le-ltb, eq-eqb, ne_eqb}
 use Rattle.words.proofs.Tests.{ltb_next}
-use Rattle.sets.specs.inner.Member.{has, With, Less}
+use Rattle.sets.specs.inner.Member.{has, With}
 use Rattle.judge_entering.specs.inner.Lanes.{front_at}
-use Rattle.net_firing.specs.inner.Marking.{Takes, Upto, is_ahead_in, Gives, LineGives}
-
-pub taken : (ahead pairs : List ℕ) (x v : ℕ) → x < length pairs → Less (get_or pairs x 0) (get_or ahead x 0) v → Takes ahead pairs x (set pairs x v)
-taken ahead pairs x v inside less y d = go (ℕ_discrete y x)
-  where
-    go : Dec (y ≡ x) → has (get_or (set pairs x v) y 0) d ≡ (has (get_or pairs y 0) d && not (eqb y x && has (get_or ahead y 0) d))
-    go (yes e) = rw (e, get_or-set_same pairs x v 0 inside, eq-eqb x x refl) (less d)
-    go (no n) = rw (get_or-set_other pairs x y v 0 n, ne_eqb y x n) (sym (and-true (has (get_or pairs y 0) d)))
+use Rattle.net_firing.specs.inner.Marking.{Upto, is_ahead_in, Gives, LineGives}
 
 -- ---- entry by entry
 

@@ -127,7 +127,7 @@ impl Net<'_> {
     // Every cart is asked in turn, and fires its transition where that can fire; answers whether any has fired.
     fn round(&self, on: &mut Tokens) -> bool
         requires { Marked (crossing_in self.now) on.old }
-        ensures { Asked (crossing_in self.now) on.old on.new result }
+        ensures { Asked (crossing_in self.now) on.old on.new result 16 }
     {
         let mut fired = false;
         for c in 0..16 {

@@ -59,9 +59,9 @@ module _ (X : Crossing) where
     pub position_16 : length t.position ≡ 16
     pub within : (c : ℕ) → pos t.position c ≤ moves_of (steps X c)
 
-  -- every cart has been asked once: where a transition has fired there are more moves than in `old`, else none can fire
-  pub record Asked (old t : Tokens) (fired : Bool) : Type 0 where
+  -- the first n carts have been asked once: where a transition has fired there are more moves than in `old`, else none of them can fire
+  pub record Asked (old t : Tokens) (fired : Bool) (n : ℕ) : Type 0 where
     pub marked : Marked t
     pub no_less : sum old.position ≤ sum t.position
     pub further : fired ≡ true → sum old.position < sum t.position
-    pub none_can : fired ≡ false → (c : ℕ) → c < 16 → ¬ (CanFire t c)
+    pub none_can : fired ≡ false → (c : ℕ) → c < n → ¬ (CanFire t c)

@@ -9,9 +9,11 @@ use lib.ListN.{length, get_or, set}
 use lib.Seq.{get_or-set_same, get_or-set_other}
 use lib.Dec.{ltb, eqb}
 use borrow.Author.Tests.{lt-ltb, le-ltb, eq-eqb, ne_eqb}
+use Rattle.std.proofs.Common.{Some}
+use Rattle.std.specs.Option.{option_eq}
 use Rattle.words.proofs.Tests.{ltb_next}
 use Rattle.sets.specs.inner.Member.{has, With}
-use Rattle.judge_entering.specs.inner.Lanes.{front_at}
+use Rattle.judge_entering.specs.inner.Lanes.{front_at, cart_in_front}
 use Rattle.net_firing.specs.inner.Marking.{Upto, is_ahead_in, Gives, LineGives}
 
 -- ---- entry by entry
@@ -61,16 +63,18 @@ module _ (zone ahead pairs : List ℕ) (z c : ℕ) where
 
 module _ (lanes : List ℕ) (lines c : ℕ) where
   abbrev next_in : ℕ → Bool
-  next_in e = eqb (front_at lanes e) (c + 1)
+  next_in e = option_eq eqb (cart_in_front (front_at lanes e)) (Some c)
 
   pub line_none : LineGives lanes lines c 0 lines
   line_none = upto_none (has lines) next_in
 
-  module _ (n now : ℕ) (so_far : LineGives lanes lines c n now) where
-    pub line_skip : ¬ (front_at lanes n ≡ c + 1) → LineGives lanes lines c (n + 1) now
-    line_skip other = upto_skip (has lines) next_in (has now) n so_far (ne_eqb (front_at lanes n) (c + 1) other)
+  module _ (n now : ℕ) (so_far : LineGives lanes lines c n now) (is : Bool) (says : is ≡ next_in n) where
+    -- cart c is not next in front of cart n
+    pub line_skip : is ≡ false → LineGives lanes lines c (n + 1) now
+    line_skip none = upto_skip (has lines) next_in (has now) n so_far (sym says ∙ none)
 
-    pub line_more : (more : ℕ) → front_at lanes n ≡ c + 1 → With now n more → LineGives lanes lines c (n + 1) more
-    line_more more is with =
+    -- or is
+    pub line_more : is ≡ true → (more : ℕ) → With now n more → LineGives lanes lines c (n + 1) more
+    line_more next more with =
         upto_next (has lines) next_in (has now) (has more) n so_far (λ y other. with y ∙ rw (ne_eqb y n other) (or-false (has now y)))
-        (with n ∙ rw (eq-eqb n n refl, eq-eqb (front_at lanes n) (c + 1) is))
+        (with n ∙ rw (eq-eqb n n refl, ← says, next))

@@ -3,12 +3,12 @@ use Prim.Native.Nat.{ℕ, zero, suc, ◌≤◌, ◌<◌}
 use mathlib.Core.Path.{◌≡◌, refl, sym, ap, ◌∙◌}
 use mathlib.Core.Bool.{Bool, true, false, cond}
 use mathlib.Core.List.{List}
+use native.Mathlib.Numerals.{add-one}
 use native.Mathlib.Omega.{arith}
 use lib.ListN.{get_or}
 use Rattle.std.specs.List.{count_by, range_with_len}
 use Rattle.std.proofs.lemmas.List.{map-id}
 use Rattle.std.proofs.lemmas.List.FromFn.{sum_by-map-range_with_len_more}
-use native.Mathlib.Numerals.{add-one}
 use Rattle.words.specs.Lists.{table}
 use Rattle.words.proofs.Filling.{table_used, table_unused}
 use Rattle.sets.specs.Counting.{bit, count_below}
@@ -28,17 +28,14 @@ unfolding count_below
 count_range zero test = refl
 count_range (suc m) test =
     ap (λ n. count_by test (range_with_len 0 n)) (sym (add-one m))
-    ∙ (rw (map-id, map-id) at (sum_by-map-range_with_len_more (λ i. cond (test i) 1 0) (λ (i : ℕ). i) 0 m m (omega arith)))
+    ∙ (simp map-id at (sum_by-map-range_with_len_more (λ i. cond (test i) 1 0) (λ (i : ℕ). i) 0 m m (omega arith)))
     ∙ omega (arith, count_range m test, bit_is (test m))
 
 -- ---- the table
 
 pub ranked_all : (arrival : List ℕ) (m n : ℕ) (ranks : List ℕ) → m ≤ 16 → n ≡ m → ranks ≡ table 16 n (rank_in arrival m) → Ranks arrival m ranks
-ranked_all arrival m n ranks few e filled = rw (filled, e) (record {
-  each_rank = table_used 16 m (rank_in arrival m) few;
-  of_none = table_unused 16 m
-      (rank_in arrival m);
-})
+ranked_all arrival m n ranks few e filled =
+    rw (filled, e) (record { each_rank = table_used 16 m (rank_in arrival m) few; of_none = table_unused 16 m (rank_in arrival m) })
 
 -- ---- what they mean
 

@@ -21,8 +21,9 @@ use Rattle.moving_record.proofs.Reached.{PassesTest, reached_says}
 use Rattle.moving_record.proofs.Positions.{in_range_is, counted_is}
 use Rattle.moving_record.proofs.Left.{left_sets}
 use Rattle.moving_record.proofs.Turns.{closed_turns, closed_lines, turns_closed}
+use Rattle.sheet_table.specs.declared.Table.{Table}
 
-module _ (sheet ahead : List ℕ) (orderly : Orderly (steps sheet) (zone sheet) (lane sheet) ahead) (lent : Record) (sized : length lent.position ≡ 16) where
+module _ (sheet : Table) (ahead : List ℕ) (orderly : Orderly (steps sheet) (zone sheet) (lane sheet) ahead) (lent : Record) (sized : length lent.position ≡ 16) where
   abbrev X : Crossing
   X = crossing_of sheet ahead
 

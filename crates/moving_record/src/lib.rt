@@ -37,7 +37,7 @@ fn none_past_out(sheet: &Table, at: &[u8; 16]) -> bool
     requires { Routes (steps sheet.now) (zone sheet.now) }
     ensures { (result ≡ true) ↔ NonePastOut (steps sheet.now) at.now }
 {
-    (0..16).all(|c| usize::from(at[c]) <= out_at(sheet_table::steps(sheet, c)))
+    (0..16).all(|c| usize::from(at[c]) <= out_at(sheet.steps(c)))
 }
 
 // How many zones each cart has left.
@@ -62,7 +62,7 @@ fn all_in_turn(sheet: &Table, ahead: &[u16; 128], at: &[u8; 16], left: &[u16; 24
         left.now }
 {
     (0..16).all(|c| {
-        let entered = usize::from(at[c]).min(sheet_table::steps(sheet, c));
+        let entered = usize::from(at[c]).min(sheet.steps(c));
         in_turn(sheet, ahead, left, c, entered)
     })
 }

@@ -21,7 +21,7 @@ pub fn who_visits(sheet: &Table, counts: &[u8; 16]) -> [u16; 24]
     let mut who = [0u16; 24];
     for (i, &k) in counts.iter().enumerate() {
         for j in 0..usize::from(k) {
-            let z = sheet_table::zone(sheet, 8 * i + j);
+            let z = sheet.zone(8 * i + j);
             who[z] = carts::with(who[z], i);
         }
     }
@@ -37,7 +37,7 @@ pub fn may_lead(sheet: &Table) -> [u16; 16]
     let mut allowed = [u16::MAX; 16];
     let mut lead = [0u16; 16];
     for i in (0..16).rev() {
-        let l = sheet_table::lane(sheet, i);
+        let l = sheet.lane(i);
         lead[i] = allowed[l];
         allowed[l] = carts::without(allowed[l], i);
     }

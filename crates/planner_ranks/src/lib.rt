@@ -12,7 +12,7 @@ fn comes_before(sheet: &Table, d: usize, c: usize) -> bool
     requires { (d < 16) × (c < 16) }
     ensures { result ≡ comes_before_in (arrival sheet.now) d c }
 {
-    (sheet_table::arrival(sheet, d), d) < (sheet_table::arrival(sheet, c), c)
+    (sheet.arrival(d), d) < (sheet.arrival(c), c)
 }
 
 // How many of the m carts come before cart c.

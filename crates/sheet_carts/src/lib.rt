@@ -20,11 +20,11 @@ fn is_early(sheet: &Table, i: usize) -> bool
     requires { i < 16 }
     ensures { result ≡ early (lane sheet.now) (arrival sheet.now) i }
 {
-    let l = sheet_table::lane(sheet, i);
-    let a = sheet_table::arrival(sheet, i);
+    let l = sheet.lane(i);
+    let a = sheet.arrival(i);
     for e in 0..i {
-        if sheet_table::lane(sheet, e) == l {
-            if a < sheet_table::arrival(sheet, e) {
+        if sheet.lane(e) == l {
+            if a < sheet.arrival(e) {
                 return true;
             }
         }

@@ -2,7 +2,6 @@
 use Prim.Native.Nat.{ℕ, ◌+◌, ◌-◌, ◌≤◌, ◌<◌}
 use mathlib.Core.Path.{◌≡◌, refl, sym, ap, ◌∙◌}
 use mathlib.Core.List.{List}
-use lib.ListN.{replicate}
 use borrow.Author.Tests.{le-leb}
 use Rattle.std.specs.Prelude.{Some, Ok, Err}
 use Rattle.words.specs.declared.Outcome.{Outcome}
@@ -13,15 +12,16 @@ use Rattle.fields.specs.inner.Field.{field_at, taking}
 use Rattle.fields.specs.declared.Cursor.{Cursor}
 use Rattle.sheet.specs.Reading.{blank, sheet_refused, read_sheet}
 use Rattle.sheet.specs.declared.Sheet.{Sheet}
-use Rattle.sheet_table.specs.inner.Parts.{part}
+use Rattle.sheet_table.specs.inner.Parts.{blank_table, follow, cross, lane, arrival, steps, zone, passing, travel}
+use Rattle.sheet_table.specs.declared.Table.{Table}
 use Rattle.sheet_filling.specs.inner.Filled.{sheet_in, with_gaps}
 use Rattle.opening.specs.inner.Opening.{opening_at}
 use Rattle.sheet_reader.specs.inner.Scan.{with_zones, zones_from, scan}
 use Rattle.sheet_reader.proofs.Agrees.{scan_agrees}
 
 -- a table of zeros holds no gap, no cart and no step
-blank_is : (n : ℕ) → with_zones blank n ≡ sheet_in n 0 (replicate 480 0)
-unfolding part
+blank_is : (n : ℕ) → with_zones blank n ≡ sheet_in n 0 blank_table
+unfolding follow cross lane arrival steps zone passing travel
 blank_is n = refl
 
 module _ (s : List ℕ) where
@@ -29,7 +29,7 @@ module _ (s : List ℕ) where
   unfolding scan
   begins_refused outcome e = sym (scan_agrees s) ∙ rw e
 
-  pub begins : (n : ℕ) (c : Cursor) (t : List ℕ) → opening_at s 1 1 24 ≡ Ok (n, c) → t ≡ replicate 480 0 → read_sheet s ≡ zones_from s n 0 (sheet_in n 0 t) c.at
+  pub begins : (n : ℕ) (c : Cursor) (t : Table) → opening_at s 1 1 24 ≡ Ok (n, c) → t ≡ blank_table → read_sheet s ≡ zones_from s n 0 (sheet_in n 0 t) c.at
   unfolding scan
   begins n c t e q = sym (scan_agrees s) ∙ rw (e, q) (ap (λ (sh : Sheet). zones_from s n 0 sh c.at) (blank_is n))
 

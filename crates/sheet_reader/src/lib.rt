@@ -4,6 +4,7 @@
 ghost use Rattle.std.specs.Prelude.{◌≡◌, ◌≤◌, replicate, IfOk};
 ghost use Rattle.words.specs.inner.Checks.{Leaves};
 ghost use Rattle.sheet.specs.Reading.{sheet_refused, sheet_done, read_sheet};
+ghost use Rattle.sheet_table.specs.inner.Parts.{blank_table};
 ghost use Rattle.sheet_filling.specs.inner.Filled.{sheet_in};
 ghost use Rattle.sheet_carts.specs.inner.Scan.{carts_from};
 ghost use Rattle.sheet_reader.specs.inner.Scan.{zones_from};
@@ -65,7 +66,7 @@ fn read_counts(
 
 // The whole pass, into a table of zeros: the counts, and the sheet is in the table, or the first of checks 1 to 14 that fails.
 pub fn fill(s: &[u8], sheet: &mut Table) -> Result<Counts, Outcome>
-    requires { sheet.old ≡ replicate 480 0 }
+    requires { sheet.old ≡ blank_table }
     ensures { Leaves sheet_refused (read_sheet s.now)
         (λ counts. sheet_done (sheet_in counts.zones counts.carts sheet.new)) result }
 {
@@ -79,7 +80,7 @@ pub fn fill(s: &[u8], sheet: &mut Table) -> Result<Counts, Outcome>
 pub fn read_sheet(s: &[u8]) -> SheetRead
     ensures { result ≡ read_sheet s.now }
 {
-    let mut table = [0u32; 480];
+    let mut table = Table::blank();
     match fill(s, &mut table) {
         Ok(counts) => SheetRead {
             outcome: done(),

@@ -2,7 +2,7 @@
 #![tactic(auto, unfolding(crate::specs::inner::Parts::follow, crate::specs::inner::Parts::cross, crate::specs::inner::Parts::lane, crate::specs::inner::Parts::arrival, crate::specs::inner::Parts::steps, crate::specs::inner::Parts::zone, crate::specs::inner::Parts::passing, crate::specs::inner::Parts::travel))]
 
 ghost use Rattle.std.specs.Prelude.{◌≡◌, ◌<◌, get_or};
-ghost use Rattle.sheet_table.specs.inner.Parts.{blank, follow, cross, lane, arrival, steps, zone, passing, travel};
+ghost use Rattle.sheet_table.specs.inner.Parts.{blank_table, follow, cross, lane, arrival, steps, zone, passing, travel};
 
 // A sheet's table, by parts in document 01's order. Carts, zones and steps count from 0; step j of cart c stands at 8 * c + j; unused entries are 0.
 #[repr(C)]
@@ -21,7 +21,7 @@ pub struct Table {
 impl Table {
     // The table with every part 0: what a sheet is read into.
     pub fn blank() -> Table
-        ensures { result ≡ blank }
+        ensures { result ≡ blank_table }
     {
         Table {
             follow: [0u32; 24],

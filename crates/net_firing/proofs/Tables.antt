@@ -1,7 +1,7 @@
 -- What the loops that take and give tokens make of the tables, entry by entry.
 use Prim.Native.Nat.{ℕ, ◌+◌, ◌<◌}
 use mathlib.Core.Path.{◌≡◌, refl, sym, ap, ◌∙◌}
-use mathlib.Core.Bool.{Bool, true, false, not, ◌&&◌, ◌||◌, and-true, and-false, or-false}
+use mathlib.Core.Bool.{Bool, true, false, ◌&&◌, ◌||◌, and-true, and-false, or-false}
 use mathlib.Core.List.{List}
 use native.Mathlib.Decide.{ℕ_discrete}
 use native.Mathlib.Omega.{arith}
@@ -9,17 +9,12 @@ use lib.ListN.{length, get_or, set}
 use lib.Seq.{get_or-set_same, get_or-set_other}
 use lib.Dec.{ltb, eqb}
 use borrow.Author.Tests.{lt-ltb, le-ltb, eq-eqb, ne_eqb}
+use Rattle.std.proofs.Common.{Some}
+use Rattle.std.specs.Option.{option_eq}
 use Rattle.words.proofs.Tests.{ltb_next}
-use Rattle.sets.specs.inner.Member.{has, With, Less}
-use Rattle.judge_entering.specs.inner.Lanes.{front_at}
-use Rattle.net_firing.specs.inner.Marking.{Takes, Upto, is_ahead_in, Gives, LineGives}
-
-pub taken : (ahead pairs : List ℕ) (x v : ℕ) → x < length pairs → Less (get_or pairs x 0) (get_or ahead x 0) v → Takes ahead pairs x (set pairs x v)
-taken ahead pairs x v inside less y d = go (ℕ_discrete y x)
-  where
-    go : Dec (y ≡ x) → has (get_or (set pairs x v) y 0) d ≡ (has (get_or pairs y 0) d && not (eqb y x && has (get_or ahead y 0) d))
-    go (yes e) = rw (e, get_or-set_same pairs x v 0 inside, eq-eqb x x refl) (less d)
-    go (no n) = rw (get_or-set_other pairs x y v 0 n, ne_eqb y x n) (sym (and-true (has (get_or pairs y 0) d)))
+use Rattle.sets.specs.inner.Member.{has, With}
+use Rattle.judge_entering.specs.inner.Lanes.{front_at, cart_in_front}
+use Rattle.net_firing.specs.inner.Marking.{Upto, is_ahead_in, Gives, LineGives}
 
 -- ---- entry by entry
 
@@ -68,16 +63,18 @@ module _ (zone ahead pairs : List ℕ) (z c : ℕ) where
 
 module _ (lanes : List ℕ) (lines c : ℕ) where
   abbrev next_in : ℕ → Bool
-  next_in e = eqb (front_at lanes e) (c + 1)
+  next_in e = option_eq eqb (cart_in_front (front_at lanes e)) (Some c)
 
   pub line_none : LineGives lanes lines c 0 lines
   line_none = upto_none (has lines) next_in
 
-  module _ (n now : ℕ) (so_far : LineGives lanes lines c n now) where
-    pub line_skip : ¬ (front_at lanes n ≡ c + 1) → LineGives lanes lines c (n + 1) now
-    line_skip other = upto_skip (has lines) next_in (has now) n so_far (ne_eqb (front_at lanes n) (c + 1) other)
+  module _ (n now : ℕ) (so_far : LineGives lanes lines c n now) (is : Bool) (says : is ≡ next_in n) where
+    -- cart c is not next in front of cart n
+    pub line_skip : is ≡ false → LineGives lanes lines c (n + 1) now
+    line_skip none = upto_skip (has lines) next_in (has now) n so_far (sym says ∙ none)
 
-    pub line_more : (more : ℕ) → front_at lanes n ≡ c + 1 → With now n more → LineGives lanes lines c (n + 1) more
-    line_more more is with =
+    -- or is
+    pub line_more : is ≡ true → (more : ℕ) → With now n more → LineGives lanes lines c (n + 1) more
+    line_more next more with =
         upto_next (has lines) next_in (has now) (has more) n so_far (λ y other. with y ∙ rw (ne_eqb y n other) (or-false (has now y)))
-        (with n ∙ rw (eq-eqb n n refl, eq-eqb (front_at lanes n) (c + 1) is))
+        (with n ∙ rw (eq-eqb n n refl, ← says, next))

@@ -10,7 +10,7 @@ use lib.IntN.{ℤ}
 use Rattle.std.specs.Prelude.{Option, Some, None}
 use borrow.Author.Tests.{eq-eqb, ne_eqb}
 use mir.Syntax.{w32}
-use mir.Val.{SFits}
+use mir.Val.{to_z, of_z, SFits}
 use mir.ValLaws.{to_z-of_z}
 use Rattle.words.proofs.Tests.{and_both}
 use Rattle.sets.specs.inner.Member.{has, Within, Lowest, Rest}
@@ -20,9 +20,12 @@ use Rattle.planner_costs.specs.inner.Tables.{Tables, CostIs, order_at, Candidate
 use Rattle.planner_costs.specs.inner.Choices.{is_taken_at, Chosen}
 use Rattle.planner_costs.specs.declared.Choice.{Choice}
 use Rattle.planner_costs.proofs.Strict.{clash}
-use Rattle.planner_costs.proofs.Compared.{bits}
 use Rattle.planner_costs.proofs.Told.{clear_at, latest_at}
 use Rattle.planner_costs.proofs.Choosing.{chosen_as, chosen_over, chosen_stays}
+
+-- a number stored by its bits
+abbrev bits : ℤ → ℤ
+bits v = to_z w32 (of_z w32 v)
 
 module _ (T : Tables) where
   pub chosen_none : Chosen T (CandidateBelow T 0) None

@@ -43,9 +43,12 @@ fn wins_tie(facts: &Facts, x: usize, a: usize, y: usize, d: usize) -> bool
     requires { (x < 128) × (a < 16) × (y < 128) × (d < 16) }
     ensures { result ≡ wins_tie (zone facts.now.sheet.now) facts.now.rank.now x a y d }
 {
-    let this = (sheet_table::zone(facts.sheet, x), facts.rank[a], facts.rank[x / 8]);
-    let other = (sheet_table::zone(facts.sheet, y), facts.rank[d], facts.rank[y / 8]);
-    this < other
+    let key = |x: usize, a: usize| (
+        sheet_table::zone(facts.sheet, x),
+        facts.rank[a],
+        facts.rank[x / 8],
+    );
+    key(x, a) < key(y, d)
 }
 
 // Whether cart a before the cart of the step at x, at this cost, is taken over the choice so far, if there is one.
@@ -77,9 +80,16 @@ fn largest_at(facts: &Facts, x: usize, best: Option<Choice>) -> Option<Choice>
         let a = carts::lowest(others);
         others = carts::rest(others);
         let p = facts.visit[16 * z + a] as usize;
-        let cost = cost_of(facts.enter[p] + sheet_table::passing(facts.sheet, p) + gap, latest);
+        let cost = cost_of(
+            facts.enter[p] + sheet_table::passing(facts.sheet, p) + gap,
+            latest,
+        );
         if is_taken(facts, x, a, cost, most) {
-            most = Some(Choice { cost, step: x, first: a });
+            most = Some(Choice {
+                cost,
+                step: x,
+                first: a,
+            });
         }
     }
     most

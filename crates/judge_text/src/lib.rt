@@ -17,10 +17,7 @@ pub fn sheet_length(input: &[u8]) -> usize
     let Field::Value(n, _) = two_bytes(input, outside(1)) else {
         return input.len();
     };
-    if input.len() < n as usize {
-        return input.len();
-    }
-    n as usize
+    input.len().min(n as usize)
 }
 
 // The place after k in a ring of n carts: the first after the last.

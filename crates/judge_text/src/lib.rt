@@ -60,8 +60,9 @@ fn show_steps(rt: &impl Print, sheet: &Sheet, words: &[u32; 128], c: usize) -> i
     for (j, &enter) in times.iter().enumerate() {
         let x = 8 * c + j;
         let next = times.get(j + 1).copied();
+        let zone = sheet.zone[x];
         let leave = leaving(enter, sheet.passing[x], next, sheet.travel[x]);
-        println!(rt; "cart {c} zone {} enter {enter} leave {leave}", sheet.zone[x])?;
+        println!(rt; "cart {c} zone {zone} enter {enter} leave {leave}")?;
     }
     Ok(())
 }

@@ -18,12 +18,8 @@ fn of_word(word: &[u8]) -> Option<Rule> {
     }
 }
 
-fn show_planned(
-    rt: &impl Print,
-    errors: &impl Print,
-    rule: Rule,
-    sheet: &[u8],
-) -> io::Result<()> {
+// Plans a sheet by a rule and writes the plan, or the line of the refusal.
+fn show_planned(rt: &impl Print, errors: &impl Print, rule: Rule, sheet: &[u8]) -> io::Result<()> {
     let mut room = [0u8; 156];
     let planned = match rule {
         Rule::Removal => planner::plan(sheet, &mut room),

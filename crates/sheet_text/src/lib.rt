@@ -35,7 +35,8 @@ pub fn show_refusal(rt: &impl Print, outcome: Outcome) -> io::Result<()> {
 
 fn show_zones(rt: &impl Print, sheet: &Sheet) -> io::Result<()> {
     for z in 0..sheet.zones.min(24) {
-        println!(rt; "zone {z} follow {} cross {}", sheet.follow[z], sheet.cross[z])?;
+        let (follow, cross) = (sheet.follow[z], sheet.cross[z]);
+        println!(rt; "zone {z} follow {follow} cross {cross}")?;
     }
     Ok(())
 }
@@ -76,17 +77,17 @@ pub fn show_sheet(rt: &impl Print, s: &[u8]) -> io::Result<()> {
     show_carts(rt, &sheet)
 }
 
-// What a program's only word asks for: `none` where it is given no word; nothing where it is given two, one too long, or one that `of_word` does not know.
+// What a program's only word asks for: `without` where there is no word; nothing where there are two, or one that is too long or unknown.
 pub fn asked_for<T: Drop, F: Fn(&[u8]) -> Option<T>>(
     rt: &impl Env,
-    none: T,
+    without: T,
     of_word: F,
 ) -> Option<T>
     requires { F.IsAlwaysCallable of_word }
 {
     let mut word = [0u8; 4096];
     match (rt.arg(1, &mut word), rt.arg(2, &mut [])) {
-        (Err(FillError::NotPresent), _) => Some(none),
+        (Err(FillError::NotPresent), _) => Some(without),
         (Ok(n), Err(FillError::NotPresent)) => of_word(&word[..n]),
         _ => None,
     }

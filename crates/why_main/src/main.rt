@@ -59,12 +59,12 @@ fn show_why(rt: &impl Print, s: &[u8], p: &[u8], lent: Record, cart: usize) -> i
 
 // The last 21 bytes are the record and the cart; the sheet and the plan stand before them.
 fn show_asked(rt: &(impl Print + Eprint), input: &[u8]) -> io::Result<()> {
-    let Some((lent, asked)) = input.split_last_chunk::<21>() else {
+    let Some((bytes, asked)) = input.split_last_chunk::<21>() else {
         return eprintln!(rt;
             "oblakosh: why_main takes a sheet, a plan, and 21 bytes of record and cart"
         );
     };
-    let (s, p) = lent.split_at(sheet_length(lent));
+    let (s, p) = bytes.split_at(sheet_length(bytes));
     show_why(rt, s, p, record_in(asked), cart_in(asked))
 }
 

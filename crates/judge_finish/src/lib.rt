@@ -13,12 +13,12 @@ fn last_leaving(sheet: &Table, enter: &[u32; 128], c: usize) -> u32
     requires { Leavable (steps sheet.now) (passing sheet.now) enter.now × (c < 16) }
     ensures { result ≡ last_leaving (steps sheet.now) (passing sheet.now) enter.now c }
 {
-    let k = sheet_table::steps(sheet, c);
+    let k = sheet.steps(c);
     if k == 0 {
         return 0;
     }
     let x = 8 * c + (k - 1);
-    enter[x] + sheet_table::passing(sheet, x)
+    enter[x] + sheet.passing(x)
 }
 
 // The largest leaving time: of each cart the last zone's, for it leaves the others before.

@@ -32,10 +32,11 @@ use Rattle.judge_entering.specs.inner.Lanes.{present_lanes, Foremost}
 use Rattle.judge_entering.specs.inner.Times.{AtMost}
 use Rattle.judge_entering.proofs.Sides.{foremost_says}
 use Rattle.judge_running.specs.inner.Rounds.{AskedSet, Going, Frees}
+use Rattle.sheet_table.specs.declared.Table.{Table}
 
 -- ---- at the start
 
-module _ (sheet ahead : List ℕ) (most : AtMost 15 (parts.lane sheet)) (first : ℕ) (are : Foremost (present_lanes sheet) 16 first) where
+module _ (sheet : Table) (ahead : List ℕ) (most : AtMost 15 (parts.lane sheet)) (first : ℕ) (are : Foremost (present_lanes sheet) 16 first) where
   abbrev X : Crossing
   X = crossing_of sheet ahead
 

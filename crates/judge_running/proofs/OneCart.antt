@@ -35,8 +35,9 @@ use Rattle.judge_one_move.proofs.Moving.{standing}
 use Rattle.judge_one_move.proofs.Steps.{steps_8, x_few, free_says, enter_says, x_enterable, first_moved, can_go_on, next_moved, out_may, can_go_out, out_moved}
 use Rattle.judge_running.specs.inner.Rounds.{Underway, Onward, Frees, Started, Advanced}
 use Rattle.judge_running.proofs.Rounds.{next_run, place_most, here, underway_room, underway_turn}
+use Rattle.sheet_table.specs.declared.Table.{Table}
 
-module _ (sheet ahead : List ℕ) where
+module _ (sheet : Table) (ahead : List ℕ) where
   abbrev X : Crossing
   X = crossing_of sheet ahead
 

@@ -36,6 +36,7 @@ use Rattle.judge_running.proofs.Inside.{held_wants}
 use Rattle.judge_running.proofs.Asked.{asked_kept, asked_out, asked_permitted, asked_going}
 use Rattle.judge_running.proofs.Rounds.{underway_few}
 use Rattle.judge_running.proofs.OneCart.{wants_asked, wants_says}
+use Rattle.sheet_table.specs.declared.Table.{Table}
 
 module _ (X : Crossing) (G : Given) where
   abbrev S : System
@@ -261,7 +262,7 @@ module _ (X : Crossing) (G : Given) where
 
 -- ---- the lowest cart of a turn, by the tables: the zone that it wants decides
 
-module _ (sheet ahead : List ℕ) (old run : Run) (turn asked : ℕ) (on : Sweeping (crossing_of sheet ahead) (given_of sheet) old run turn asked) (c : ℕ)
+module _ (sheet : Table) (ahead : List ℕ) (old run : Run) (turn asked : ℕ) (on : Sweeping (crossing_of sheet ahead) (given_of sheet) old run turn asked) (c : ℕ)
     (l : c < 16) (low : Lowest turn c) (p : ℕ) (p_is : p ≡ pos run.at c) where
   wants : pos run.at c < get_or (parts.steps sheet) c 0
   wants =

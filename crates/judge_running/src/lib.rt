@@ -38,7 +38,7 @@ fn advance(sheet: &Table, ahead: &[u16; 128], mates: u16, run: &mut Run, c: usiz
         × (pos run.old.at c ≤ get_or (steps sheet.now) c 0) × (mates ≡ present_mates sheet.now c) }
     ensures { Advanced (crossing_of sheet.now ahead.now) (given_of sheet.now) run.old run.new c result }
 {
-    let end = 8 * c + sheet_table::steps(sheet, c);
+    let end = 8 * c + sheet.steps(c);
     for x in 8 * c + usize::from(run.at[c])..end {
         if !may_enter(sheet, ahead, &run.left, x) {
             return false;
@@ -57,7 +57,7 @@ pub fn present(sheet: &Table) -> u16
 {
     let mut set = 0;
     for c in 0..16 {
-        if 0 < sheet_table::steps(sheet, c) {
+        if 0 < sheet.steps(c) {
             set = carts::with(set, c);
         }
     }
@@ -79,7 +79,7 @@ fn sweep(sheet: &Table, on: &[u16; 16], ahead: &[u16; 128], run: &mut Run, asked
         turn = carts::rest(turn);
         // A cart that is asked wants a zone: out of its last one it has gone at once.
         if may_enter(sheet, ahead, &run.left, 8 * c + usize::from(run.at[c])) {
-            let mates = on[sheet_table::lane(sheet, c)];
+            let mates = on[sheet.lane(c)];
             let freed = start(sheet, ahead, mates, run, c);
             turn = carts::joined(turn, freed);
             still = carts::joined(still, freed);

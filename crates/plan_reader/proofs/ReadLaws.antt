@@ -19,6 +19,7 @@ use Rattle.plan.proofs.Readable.{readable_sheet, readable_valid}
 use Rattle.plan_reader.specs.inner.Scan.{plan_of, BothRead, TablesFit, sheet_scan}
 use Rattle.plan_reader.proofs.ValidLaws.{valid_routes, valid_lanes}
 use Rattle.plan_reader.proofs.Answer.{read_refused, read_accepted}
+use Rattle.sheet_table.specs.declared.Table.{Table}
 
 -- the sheet's refusal is the plan's
 pub sheet_refused_lem : (s p : List ℕ) (outcome : Outcome) → 0 < outcome.number → read_sheet s ≡ sheet_refused outcome
@@ -43,7 +44,7 @@ module _ (s p : List ℕ) (sheet : Sheet) (is : read_sheet s ≡ sheet_done shee
   scan_read orders e = sym accepted_scan ∙ ap (plan_of sheet) e
 
 -- what reading both answers
-module _ (s p table : List ℕ) (orders : Orders) where
+module _ (s p : List ℕ) (table : Table) (orders : Orders) where
   pub both_refused : (outcome : Outcome) → BothRead s p table orders (Err outcome) → plan_refused outcome ≡ read_plan s p
   both_refused outcome left = sym left.1
 

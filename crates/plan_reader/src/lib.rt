@@ -2,7 +2,7 @@
 #![tactic(auto)]
 
 ghost use Rattle.std.specs.Prelude.{◌≡◌, ◌<◌, replicate};
-ghost use Rattle.sheet_table.specs.inner.Parts.{steps, zone, lane};
+ghost use Rattle.sheet_table.specs.inner.Parts.{steps, zone, lane, blank_table};
 ghost use Rattle.plan.specs.Reading.{no_orders, plan_refused, read_plan};
 ghost use Rattle.plan_lists.specs.inner.Sets.{Routes};
 ghost use Rattle.plan_reader.specs.inner.Scan.{TablesFit, ReadInto, BothRead, ahead_at, ahead_of, from_lists, scan};
@@ -23,8 +23,8 @@ fn ahead_at(sheet: &Table, before: &[u16; 384], x: usize) -> u16
     ensures { result ≡ ahead_at (steps sheet.now) (zone sheet.now) before.now x }
 {
     let i = x / 8;
-    if x % 8 < sheet_table::steps(sheet, i) {
-        let z = sheet_table::zone(sheet, x);
+    if x % 8 < sheet.steps(i) {
+        let z = sheet.zone(x);
         before[16 * z + i]
     } else {
         0
@@ -97,7 +97,7 @@ pub fn read_tables(
     sheet: &mut Table,
     orders: &mut Orders,
 ) -> Result<Counts, Outcome>
-    requires { (sheet.old ≡ replicate 480 0) × (orders.old ≡ no_orders) }
+    requires { (sheet.old ≡ blank_table) × (orders.old ≡ no_orders) }
     ensures { BothRead s.now p.now sheet.new orders.new result }
 {
     let counts = fill(s, sheet)?;
@@ -109,7 +109,7 @@ pub fn read_tables(
 pub fn read_plan(s: &[u8], p: &[u8]) -> PlanRead
     ensures { result ≡ read_plan s.now p.now }
 {
-    let mut table = [0u32; 480];
+    let mut table = Table::blank();
     let mut orders = no_orders();
     match read_tables(s, p, &mut table, &mut orders) {
         Ok(counts) => PlanRead {

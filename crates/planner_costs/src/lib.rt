@@ -44,7 +44,7 @@ fn wins_tie(facts: &Facts, x: usize, a: usize, y: usize, d: usize) -> bool
     ensures { result ≡ wins_tie (zone facts.now.sheet.now) facts.now.rank.now x a y d }
 {
     let key = |x: usize, a: usize| (
-        sheet_table::zone(facts.sheet, x),
+        facts.sheet.zone(x),
         facts.rank[a],
         facts.rank[x / 8],
     );
@@ -71,8 +71,8 @@ fn largest_at(facts: &Facts, x: usize, best: Option<Choice>) -> Option<Choice>
     requires { Choosing (tables_in facts.now) x best }
     ensures { ChosenBelow (tables_in facts.now) (x + 1) result }
 {
-    let z = sheet_table::zone(facts.sheet, x);
-    let gap = sheet_table::cross(facts.sheet, z);
+    let z = facts.sheet.zone(x);
+    let gap = facts.sheet.cross(z);
     let latest = facts.enter[x] + facts.spare[x];
     let mut most = best;
     let mut others = facts.undecided[x];
@@ -81,7 +81,7 @@ fn largest_at(facts: &Facts, x: usize, best: Option<Choice>) -> Option<Choice>
         others = carts::rest(others);
         let p = facts.visit[16 * z + a] as usize;
         let cost = cost_of(
-            facts.enter[p] + sheet_table::passing(facts.sheet, p) + gap,
+            facts.enter[p] + facts.sheet.passing(p) + gap,
             latest,
         );
         if is_taken(facts, x, a, cost, most) {

@@ -14,6 +14,7 @@ use Rattle.plan.specs.declared.Orders.{Orders}
 use Rattle.plan.specs.declared.PlanRead.{PlanRead}
 use Rattle.plan_lists.specs.inner.Sets.{Routes, Lanes, who_visits, may_lead}
 use Rattle.plan_lists.specs.inner.Scan.{Lists, no_lists, Scanned, lists_from}
+use Rattle.sheet_table.specs.declared.Table.{Table}
 
 -- the carts ahead at x, which is 8 * i + j for step j of cart i: those ahead of it in the list of the step's zone, 0 if there is no such step
 abbrev pub ahead_at : List ℕ → List ℕ → List ℕ → ℕ → ℕ
@@ -40,7 +41,7 @@ abbrev pub ReadInto : PlanScanned → Orders → Result (Unit {0}) Outcome → T
 ReadInto whole orders left = Leaves Err whole (λ _. Ok orders) left
 
 -- how reading both a sheet and a plan is left: with the sheet's table and the orders, or with the refusal
-abbrev pub BothRead : List ℕ → List ℕ → List ℕ → Orders → Result Counts Outcome → Type 0
+abbrev pub BothRead : List ℕ → List ℕ → Table → Orders → Result Counts Outcome → Type 0
 BothRead s p table orders left =
     Leaves plan_refused (read_plan s p) (λ counts. plan_done (sheet_in counts.zones counts.carts table) orders) left
 

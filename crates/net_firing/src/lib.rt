@@ -43,7 +43,7 @@ impl Net<'_> {
         requires { c < 16 }
         ensures { (result ≡ true) ↔ (p ≡ 0 → 0 < front_at self.now.lanes c → has lines c ≡ true) }
     {
-        0 < p || front(&self.lanes, c) == 0 || carts::has(lines, c)
+        0 < p || front(&self.lanes, c).is_none() || carts::has(lines, c)
     }
 
     // Whether the transition of cart c from where it stands can fire: each place before it has a token.
@@ -97,7 +97,7 @@ impl Net<'_> {
     {
         let mut more = lines;
         for e in 0..16 {
-            if front(&self.lanes, e) == c + 1 {
+            if front(&self.lanes, e) == Some(c) {
                 more = carts::with(more, e);
             }
         }
@@ -127,7 +127,7 @@ impl Net<'_> {
     // Every cart is asked in turn, and fires its transition where that can fire; answers whether any has fired.
     fn round(&self, on: &mut Tokens) -> bool
         requires { Marked (crossing_in self.now) on.old }
-        ensures { Asked (crossing_in self.now) on.old on.new result }
+        ensures { Asked (crossing_in self.now) on.old on.new result 16 }
     {
         let mut fired = false;
         for c in 0..16 {

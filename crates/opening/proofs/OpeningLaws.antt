@@ -13,32 +13,31 @@ use Rattle.fields.specs.declared.Cursor.{Cursor}
 use Rattle.fields.proofs.TakingLaws.{taking_holds}
 use Rattle.sheet.specs.Checks.{is_one}
 use Rattle.opening.specs.inner.Opening.{opening_by, opening_at, is_between}
-use Rattle.opening.specs.declared.Opening.{Opening}
-use Rattle.opening.specs.declared.Opening.TheVariants.{Zones, Refused}
+use Rattle.std.specs.Prelude.{Result, Ok, Err}
 
 module _ (s : List ℕ) (first least most : ℕ) (numbers : 0 < first) where
-  data Fine : Opening → Type 0 where
-    between : {n : ℕ} {next : Cursor} → (least ≤ n) × (n ≤ most) → Fine (Zones n next)
-    numbered : {outcome : Outcome} → 0 < outcome.number → Fine (Refused outcome)
+  data Fine : Result (ℕ × Cursor) Outcome → Type 0 where
+    between : {n : ℕ} {next : Cursor} → (least ≤ n) × (n ≤ most) → Fine (Ok (n, next))
+    numbered : {outcome : Outcome} → 0 < outcome.number → Fine (Err outcome)
 
   fine : Fine (opening_at s first least most)
   unfolding opening_by
   fine =
-      taking_holds Fine Refused first s 1 _ (first + 1) is_one _ (numbered numbers) (numbered (omega arith)) λ version c _.
-      taking_holds Fine Refused first s 2 c (first + 2) (λ total. eqb total (length s)) _ (numbered numbers) (numbered (omega arith)) λ total c2 _.
-      taking_holds Fine Refused first s 1 c2 (first + 3) (is_between least most) _ (numbered numbers) (numbered (omega arith)) λ n c3 e.
+      taking_holds Fine Err first s 1 _ (first + 1) is_one _ (numbered numbers) (numbered (omega arith)) λ version c _.
+      taking_holds Fine Err first s 2 c (first + 2) (λ total. eqb total (length s)) _ (numbered numbers) (numbered (omega arith)) λ total c2 _.
+      taking_holds Fine Err first s 1 c2 (first + 3) (is_between least most) _ (numbered numbers) (numbered (omega arith)) λ n c3 e.
       between ((and_says _ _ (leb_says least n) (leb_says n most)).0 e)
 
-  pub opening_between : (n : ℕ) (next : Cursor) → opening_at s first least most ≡ Zones n next → (least ≤ n) × (n ≤ most)
+  pub opening_between : (n : ℕ) (next : Cursor) → opening_at s first least most ≡ Ok (n, next) → (least ≤ n) × (n ≤ most)
   opening_between n next e = go (subst Fine e fine)
     where
-      go : Fine (Zones n next) → (least ≤ n) × (n ≤ most)
+      go : Fine (Ok (n, next)) → (least ≤ n) × (n ≤ most)
       go (between f) = f
 
-  pub opening_refused : (outcome : Outcome) → opening_at s first least most ≡ Refused outcome → 0 < outcome.number
+  pub opening_refused : (outcome : Outcome) → opening_at s first least most ≡ Err outcome → 0 < outcome.number
   opening_refused outcome e = go (subst Fine e fine)
     where
-      go : Fine (Refused outcome) → 0 < outcome.number
+      go : Fine (Err outcome) → 0 < outcome.number
       go (numbered f) = f
 
 -- from a number to itself is the number

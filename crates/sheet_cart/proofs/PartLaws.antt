@@ -15,10 +15,8 @@ use Rattle.fields.proofs.TakingLaws.{pick_holds, taking_holds}
 use Rattle.sheet.specs.Checks.{is_lane, is_arrival, is_step_count, is_passing, most_travel}
 use Rattle.sheet_cart.specs.inner.Parts.{head_at, step_at}
 use Rattle.sheet_cart.specs.declared.CartHead.{CartHead}
-use Rattle.sheet_cart.specs.declared.Head.{Head}
-use Rattle.sheet_cart.specs.declared.Head.TheVariants.{Got as GotHead, Refused as NoHead}
 use Rattle.sheet_cart.specs.declared.Step.{Step}
-use Rattle.sheet_cart.specs.declared.Step.TheVariants.{Got as GotStep, Refused as NoStep}
+use Rattle.std.specs.Prelude.{Result, Ok, Err}
 
 pub travel_most : (j k : ℕ) → most_travel j k ≤ most_time
 travel_most j k = go (eqb (j + 1) k)
@@ -30,52 +28,52 @@ travel_most j k = go (eqb (j + 1) k)
 pub travel_fits : (t j k : ℕ) → leb t (most_travel j k) ≡ true → t ≤ most_time
 travel_fits t j k e = omega (arith, leb-true t (most_travel j k) e, travel_most j k)
 
-data HeadFine : Head → Type 0 where
-  few_steps : {h : CartHead} {next : Cursor} → h.steps ≤ 8 → HeadFine (GotHead h next)
-  head_number : {outcome : Outcome} → 0 < outcome.number → HeadFine (NoHead outcome)
+data HeadFine : Result (CartHead × Cursor) Outcome → Type 0 where
+  few_steps : {h : CartHead} {next : Cursor} → h.steps ≤ 8 → HeadFine (Ok (h, next))
+  head_number : {outcome : Outcome} → 0 < outcome.number → HeadFine (Err outcome)
 
 head_fine : (s : List ℕ) (c : Cursor) → HeadFine (head_at s c)
 unfolding head_at
 head_fine s c =
-    taking_holds HeadFine NoHead 1 s 1 c 7 is_lane _ (head_number (lit< tt)) (head_number (lit< tt)) λ lane c2 _.
-    taking_holds HeadFine NoHead 1 s 4 c2 8 is_arrival _ (head_number (lit< tt)) (head_number (lit< tt)) λ arrival c3 _.
-    taking_holds HeadFine NoHead 1 s 1 c3 9 is_step_count _ (head_number (lit< tt)) (head_number (lit< tt)) λ steps c4 e.
+    taking_holds HeadFine Err 1 s 1 c 7 is_lane _ (head_number (lit< tt)) (head_number (lit< tt)) λ lane c2 _.
+    taking_holds HeadFine Err 1 s 4 c2 8 is_arrival _ (head_number (lit< tt)) (head_number (lit< tt)) λ arrival c3 _.
+    taking_holds HeadFine Err 1 s 1 c3 9 is_step_count _ (head_number (lit< tt)) (head_number (lit< tt)) λ steps c4 e.
     few_steps ((and_says _ _ (leb_says 1 steps) (leb_says steps 8)).0 e).1
 
-pub head_steps : (s : List ℕ) (c : Cursor) (h : CartHead) (next : Cursor) → head_at s c ≡ GotHead h next → h.steps ≤ 8
+pub head_steps : (s : List ℕ) (c : Cursor) (h : CartHead) (next : Cursor) → head_at s c ≡ Ok (h, next) → h.steps ≤ 8
 head_steps s c h next e = go (subst HeadFine e (head_fine s c))
   where
-    go : HeadFine (GotHead h next) → h.steps ≤ 8
+    go : HeadFine (Ok (h, next)) → h.steps ≤ 8
     go (few_steps f) = f
 
-pub head_refused : (s : List ℕ) (c : Cursor) (outcome : Outcome) → head_at s c ≡ NoHead outcome → 0 < outcome.number
+pub head_refused : (s : List ℕ) (c : Cursor) (outcome : Outcome) → head_at s c ≡ Err outcome → 0 < outcome.number
 head_refused s c outcome e = go (subst HeadFine e (head_fine s c))
   where
-    go : HeadFine (NoHead outcome) → 0 < outcome.number
+    go : HeadFine (Err outcome) → 0 < outcome.number
     go (head_number f) = f
 
-data StepFine (n : ℕ) : Step → Type 0 where
-  known_zone : {zone passing travel : ℕ} {next : Cursor} → zone < n → StepFine n (GotStep zone passing travel next)
-  step_number : {outcome : Outcome} → 0 < outcome.number → StepFine n (NoStep outcome)
+data StepFine (n : ℕ) : Result (Step × Cursor) Outcome → Type 0 where
+  known_zone : {step : Step} {next : Cursor} → step.zone < n → StepFine n (Ok (step, next))
+  step_number : {outcome : Outcome} → 0 < outcome.number → StepFine n (Err outcome)
 
 module _ (s : List ℕ) (n : ℕ) (named : ℕ → Bool) (j k : ℕ) (c : Cursor) where
   step_fine : StepFine n (step_at s n named j k c)
   unfolding step_at
   step_fine =
-      taking_holds (StepFine n) NoStep 1 s 1 c 10 (λ z. ltb z n) _ (step_number (lit< tt)) (step_number (lit< tt)) λ z c2 known.
+      taking_holds (StepFine n) Err 1 s 1 c 10 (λ z. ltb z n) _ (step_number (lit< tt)) (step_number (lit< tt)) λ z c2 known.
       pick_holds (StepFine n) (named z) _ _ (λ _. step_number (lit< tt))
-      (taking_holds (StepFine n) NoStep 1 s 2 c2 12 is_passing _ (step_number (lit< tt)) (step_number (lit< tt)) λ p c3 _.
-      taking_holds (StepFine n) NoStep 1 s 2 c3 12 (λ t. leb t (most_travel j k)) _ (step_number (lit< tt)) (step_number (lit< tt)) λ t c4 _.
+      (taking_holds (StepFine n) Err 1 s 2 c2 12 is_passing _ (step_number (lit< tt)) (step_number (lit< tt)) λ p c3 _.
+      taking_holds (StepFine n) Err 1 s 2 c3 12 (λ t. leb t (most_travel j k)) _ (step_number (lit< tt)) (step_number (lit< tt)) λ t c4 _.
       known_zone (ltb-true z n known))
 
-  pub step_zone : (zone passing travel : ℕ) (next : Cursor) → step_at s n named j k c ≡ GotStep zone passing travel next → zone < n
-  step_zone zone passing travel next e = go (subst (StepFine n) e step_fine)
+  pub step_zone : (step : Step) (next : Cursor) → step_at s n named j k c ≡ Ok (step, next) → step.zone < n
+  step_zone step next e = go (subst (StepFine n) e step_fine)
     where
-      go : StepFine n (GotStep zone passing travel next) → zone < n
+      go : StepFine n (Ok (step, next)) → step.zone < n
       go (known_zone f) = f
 
-  pub step_refused : (outcome : Outcome) → step_at s n named j k c ≡ NoStep outcome → 0 < outcome.number
+  pub step_refused : (outcome : Outcome) → step_at s n named j k c ≡ Err outcome → 0 < outcome.number
   step_refused outcome e = go (subst (StepFine n) e step_fine)
     where
-      go : StepFine n (NoStep outcome) → 0 < outcome.number
+      go : StepFine n (Err outcome) → 0 < outcome.number
       go (step_number f) = f

@@ -70,36 +70,28 @@ fn scan_carts(
         (finish s.now (sheet_in n m sheet.new) spot.new) result }
 {
     let mut at = start;
-    let mut left = None;
-    'scan: for i in 0..m {
-        let (head, next) = match read_head(s, in_cart(i, at)) {
-            Ok(read) => read,
-            Err(refusal) => {
-                left = Some(refusal);
-                break 'scan;
-            }
-        };
-        let k = head.steps as usize;
-        put_cart(sheet, i, head.lane, head.arrival, head.steps);
-        spot[i] = head.place;
-        at = next.at;
-        let mut seen = 0u32;
-        for j in 0..k {
-            let (step, next) = match read_step(s, in_step(i, j, at), n, seen, j, k) {
+    'scan: {
+        for i in 0..m {
+            let (head, next) = match read_head(s, in_cart(i, at)) {
                 Ok(read) => read,
-                Err(refusal) => {
-                    left = Some(refusal);
-                    break 'scan;
-                }
+                Err(refusal) => break 'scan Err(refusal),
             };
-            put_step(sheet, 8 * i + j, step.zone, step.passing, step.travel);
-            seen = zones::with(seen, step.zone as usize);
+            let k = head.steps as usize;
+            put_cart(sheet, i, head.lane, head.arrival, head.steps);
+            spot[i] = head.place;
             at = next.at;
+            let mut seen = 0u32;
+            for j in 0..k {
+                let (step, next) = match read_step(s, in_step(i, j, at), n, seen, j, k) {
+                    Ok(read) => read,
+                    Err(refusal) => break 'scan Err(refusal),
+                };
+                put_step(sheet, 8 * i + j, step.zone, step.passing, step.travel);
+                seen = zones::with(seen, step.zone as usize);
+                at = next.at;
+            }
         }
-    }
-    match left {
-        Some(refusal) => Err(refusal),
-        None => Ok(at),
+        Ok(at)
     }
 }
 

@@ -19,7 +19,7 @@ returns-then-version-ne1 c = rw (
   c.refused_at-then-version-ne1.ensures,
   ← c.outside-start.ensures,
   sym c.one_byte.ensures ∙
-      c.in-Value.is,
+      c.in-Some.is,
   ne_eqb _ _ c.if-version-ne1.true,
   c.outside-start.ensures,
 )
@@ -30,7 +30,7 @@ returns-in_default-two_bytes c = rw (
   c.refused_at-in_default-two_bytes.ensures,
   ← c.outside-start.ensures,
   sym c.one_byte.ensures ∙
-      c.in-Value.is,
+      c.in-Some.is,
   eq-eqb _ _ c.if-version-ne1.false,
   sym
       c.two_bytes.ensures ∙ c.in_default-two_bytes.is,
@@ -42,11 +42,11 @@ returns-then-total-s c = rw (
   c.refused_at-then-total-s.ensures,
   ← c.outside-start.ensures,
   sym c.one_byte.ensures ∙
-      c.in-Value.is,
+      c.in-Some.is,
   eq-eqb _ _
       c.if-version-ne1.false,
   sym c.two_bytes.ensures ∙
-      c.in-Value-two_bytes.is,
+      c.in-Some-two_bytes.is,
   ne_eqb _ _ c.if-total-s.true,
 )
 
@@ -58,12 +58,12 @@ returns-in_default-one_byte c = rw (
       c.outside-start.ensures,
   sym
       c.one_byte.ensures
-      ∙ c.in-Value.is,
+      ∙ c.in-Some.is,
   eq-eqb _ _
       c.if-version-ne1.false,
   sym
       c.two_bytes.ensures
-      ∙ c.in-Value-two_bytes.is,
+      ∙ c.in-Some-two_bytes.is,
   eq-eqb _ _ c.if-total-s.false,
   sym
       c.one_byte-2.ensures ∙ c.in_default-one_byte.is,
@@ -77,16 +77,16 @@ returns-then-n-least c = rw (
       c.outside-start.ensures,
   sym
       c.one_byte.ensures
-      ∙ c.in-Value.is,
+      ∙ c.in-Some.is,
   eq-eqb _ _
       c.if-version-ne1.false,
   sym
       c.two_bytes.ensures
-      ∙ c.in-Value-two_bytes.is,
+      ∙ c.in-Some-two_bytes.is,
   eq-eqb _ _
       c.if-total-s.false,
   sym c.one_byte-2.ensures
-      ∙ c.in-Value-one_byte.is,
+      ∙ c.in-Some-one_byte.is,
   lt-leb _ _ c.if-n-least.true,
 )
 
@@ -96,11 +96,11 @@ returns-then-most-n c = rw (
   c.refused_at-then-most-n.ensures,
   ←
       c.outside-start.ensures,
-  sym c.one_byte.ensures ∙ c.in-Value.is,
+  sym c.one_byte.ensures ∙ c.in-Some.is,
   eq-eqb _ _ c.if-version-ne1.false,
-  sym c.two_bytes.ensures ∙ c.in-Value-two_bytes.is,
+  sym c.two_bytes.ensures ∙ c.in-Some-two_bytes.is,
   eq-eqb _ _ c.if-total-s.false,
-  sym c.one_byte-2.ensures ∙ c.in-Value-one_byte.is,
+  sym c.one_byte-2.ensures ∙ c.in-Some-one_byte.is,
   le-leb _ _ c.if-n-least.false,
   lt-leb _ _ c.if-most-n.true,
 )
@@ -112,16 +112,16 @@ returns c = rw (
       c.outside-start.ensures,
   sym
       c.one_byte.ensures
-      ∙ c.in-Value.is,
+      ∙ c.in-Some.is,
   eq-eqb _ _
       c.if-version-ne1.false,
   sym
       c.two_bytes.ensures
-      ∙ c.in-Value-two_bytes.is,
+      ∙ c.in-Some-two_bytes.is,
   eq-eqb _ _
       c.if-total-s.false,
   sym c.one_byte-2.ensures
-      ∙ c.in-Value-one_byte.is,
+      ∙ c.in-Some-one_byte.is,
   le-leb _ _ c.if-n-least.false,
   le-leb _ _ c.if-most-n.false,
 )

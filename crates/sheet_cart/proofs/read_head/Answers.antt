@@ -14,7 +14,7 @@ unfolding head_at taking
 returns-then-lane-gt15 c = rw (
   c.refused_at-then-lane-gt15.ensures,
   sym c.one_byte.ensures ∙
-      c.in-Value.is,
+      c.in-Some.is,
   lt-leb _ _ c.if-lane-gt15.true,
 )
 
@@ -23,7 +23,7 @@ unfolding head_at taking
 returns-in_default-four_bytes c = rw (
   c.refused_at-in_default-four_bytes.ensures,
   sym c.one_byte.ensures ∙
-      c.in-Value.is,
+      c.in-Some.is,
   le-leb _ _ c.if-lane-gt15.false,
   sym
       c.four_bytes.ensures ∙ c.in_default-four_bytes.is,
@@ -34,11 +34,11 @@ unfolding head_at taking
 returns-then-arrival-gt-LATEST_ARRIVAL c = rw (
   c.refused_at-then-arrival-gt-LATEST_ARRIVAL.ensures,
   sym c.one_byte.ensures ∙
-      c.in-Value.is,
+      c.in-Some.is,
   le-leb _ _
       c.if-lane-gt15.false,
   sym c.four_bytes.ensures ∙
-      c.in-Value-four_bytes.is,
+      c.in-Some-four_bytes.is,
   lt-leb _ _ c.if-arrival-gt-LATEST_ARRIVAL.true,
 )
 
@@ -48,12 +48,12 @@ returns-in_default-one_byte c = rw (
   c.refused_at-in_default-one_byte.ensures,
   sym
       c.one_byte.ensures
-      ∙ c.in-Value.is,
+      ∙ c.in-Some.is,
   le-leb _ _
       c.if-lane-gt15.false,
   sym
       c.four_bytes.ensures
-      ∙ c.in-Value-four_bytes.is,
+      ∙ c.in-Some-four_bytes.is,
   le-leb _ _ c.if-arrival-gt-LATEST_ARRIVAL.false,
   sym
       c.one_byte-2.ensures ∙ c.in_default-one_byte.is,
@@ -65,16 +65,16 @@ returns-then-steps-lt1 c = rw (
   c.refused_at-then-steps-lt1.ensures,
   sym
       c.one_byte.ensures
-      ∙ c.in-Value.is,
+      ∙ c.in-Some.is,
   le-leb _ _
       c.if-lane-gt15.false,
   sym
       c.four_bytes.ensures
-      ∙ c.in-Value-four_bytes.is,
+      ∙ c.in-Some-four_bytes.is,
   le-leb _ _
       c.if-arrival-gt-LATEST_ARRIVAL.false,
   sym c.one_byte-2.ensures
-      ∙ c.in-Value-one_byte.is,
+      ∙ c.in-Some-one_byte.is,
   lt-leb _ _ c.if-steps-lt1.true,
 )
 
@@ -84,16 +84,16 @@ returns-then-steps-gt8 c = rw (
   c.refused_at-then-steps-gt8.ensures,
   sym
       c.one_byte.ensures
-      ∙ c.in-Value.is,
+      ∙ c.in-Some.is,
   le-leb _ _
       c.if-lane-gt15.false,
   sym
       c.four_bytes.ensures
-      ∙ c.in-Value-four_bytes.is,
+      ∙ c.in-Some-four_bytes.is,
   le-leb _ _
       c.if-arrival-gt-LATEST_ARRIVAL.false,
   sym c.one_byte-2.ensures
-      ∙ c.in-Value-one_byte.is,
+      ∙ c.in-Some-one_byte.is,
   le-leb _ _ c.if-steps-lt1.false,
   lt-leb _ _ c.if-steps-gt8.true,
 )
@@ -103,16 +103,16 @@ unfolding head_at taking
 returns c = rw (
   sym
       c.one_byte.ensures
-      ∙ c.in-Value.is,
+      ∙ c.in-Some.is,
   le-leb _ _
       c.if-lane-gt15.false,
   sym
       c.four_bytes.ensures
-      ∙ c.in-Value-four_bytes.is,
+      ∙ c.in-Some-four_bytes.is,
   le-leb _ _
       c.if-arrival-gt-LATEST_ARRIVAL.false,
   sym c.one_byte-2.ensures
-      ∙ c.in-Value-one_byte.is,
+      ∙ c.in-Some-one_byte.is,
   le-leb _ _ c.if-steps-lt1.false,
   le-leb _ _ c.if-steps-gt8.false,
 )

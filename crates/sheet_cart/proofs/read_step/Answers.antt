@@ -15,7 +15,7 @@ pub returns-then-n-z : goal.returns-then-n-z
 unfolding step_at taking
 returns-then-n-z c = rw (
   c.refused_at-then-n-z.ensures,
-  sym c.one_byte.ensures ∙ c.in-Value.is,
+  sym c.one_byte.ensures ∙ c.in-Some.is,
   le-ltb _ _ c.if-n-z.true,
 )
 
@@ -24,7 +24,7 @@ unfolding step_at taking
 returns-then-has c = rw (
   c.refused_at-then-has.ensures,
   sym c.one_byte.ensures ∙
-      c.in-Value.is,
+      c.in-Some.is,
   lt-ltb _ _ c.if-n-z.false,
   sym
       c.has.ensures ∙ c.if-has.true,
@@ -35,7 +35,7 @@ unfolding step_at taking
 returns-in_default-two_bytes c = rw (
   c.refused_at-in_default-two_bytes.ensures,
   sym c.one_byte.ensures ∙
-      c.in-Value.is,
+      c.in-Some.is,
   lt-ltb _ _
       c.if-n-z.false,
   sym c.has.ensures ∙
@@ -49,13 +49,13 @@ returns-then-p-gt-MOST_TIME c = rw (
   c.refused_at-then-p-gt-MOST_TIME.ensures,
   sym
       c.one_byte.ensures
-      ∙ c.in-Value.is,
+      ∙ c.in-Some.is,
   lt-ltb _ _
       c.if-n-z.false,
   sym
       c.has.ensures ∙ c.if-has.false,
   sym
-      c.two_bytes.ensures ∙ c.in-Value-two_bytes.is,
+      c.two_bytes.ensures ∙ c.in-Some-two_bytes.is,
   lt-leb _ _ c.if-p-gt-MOST_TIME.true,
 )
 
@@ -65,14 +65,14 @@ returns-in_default-two_bytes-2 c = rw (
   c.refused_at-in_default-two_bytes-2.ensures,
   sym
       c.one_byte.ensures
-      ∙ c.in-Value.is,
+      ∙ c.in-Some.is,
   lt-ltb _ _
       c.if-n-z.false,
   sym
       c.has.ensures
       ∙ c.if-has.false,
   sym
-      c.two_bytes.ensures ∙ c.in-Value-two_bytes.is,
+      c.two_bytes.ensures ∙ c.in-Some-two_bytes.is,
   le-leb _ _ c.if-p-gt-MOST_TIME.false,
   sym c.two_bytes-2.ensures ∙ c.in_default-two_bytes-2.is,
 )
@@ -82,21 +82,21 @@ unfolding step_at taking
 returns-then-not-is_travel c = rw (
   c.refused_at-then-not-is_travel.ensures,
   sym
-      c.one_byte.ensures ∙ c.in-Value.is,
+      c.one_byte.ensures ∙ c.in-Some.is,
   lt-ltb _ _ c.if-n-z.false,
   sym c.has.ensures
       ∙ c.if-has.false,
   sym c.two_bytes.ensures
-      ∙ c.in-Value-two_bytes.is,
+      ∙ c.in-Some-two_bytes.is,
   le-leb _ _ c.if-p-gt-MOST_TIME.false,
-  sym c.two_bytes-2.ensures ∙ c.in-Value-two_bytes-2.is,
+  sym c.two_bytes-2.ensures ∙ c.in-Some-two_bytes-2.is,
   sym c.is_travel.ensures ∙ c.if-not-is_travel.true,
 )
 
-pub overflow_cast-result-3 : goal.overflow_cast-result-3
-overflow_cast-result-3 c = omega (
+pub overflow_cast-step-3 : goal.overflow_cast-step-3
+overflow_cast-step-3 c = omega (
   arith,
-  travel_fits c.in-Value-two_bytes-2.t
+  travel_fits c.in-Some-two_bytes-2.t
       c.args.j c.args.k (sym c.is_travel.ensures ∙ c.if-not-is_travel.false),
 )
 
@@ -104,13 +104,13 @@ pub returns : goal.returns
 unfolding step_at taking
 returns c = rw (
   sym
-      c.one_byte.ensures ∙ c.in-Value.is,
+      c.one_byte.ensures ∙ c.in-Some.is,
   lt-ltb _ _ c.if-n-z.false,
   sym c.has.ensures
       ∙ c.if-has.false,
   sym c.two_bytes.ensures
-      ∙ c.in-Value-two_bytes.is,
+      ∙ c.in-Some-two_bytes.is,
   le-leb _ _ c.if-p-gt-MOST_TIME.false,
-  sym c.two_bytes-2.ensures ∙ c.in-Value-two_bytes-2.is,
+  sym c.two_bytes-2.ensures ∙ c.in-Some-two_bytes-2.is,
   sym c.is_travel.ensures ∙ c.if-not-is_travel.false,
 )

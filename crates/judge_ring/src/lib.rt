@@ -110,7 +110,7 @@ pub fn points_to(
         × (result < 16) }
 {
     if lane_holds(lanes, at, c) {
-        return front(lanes, c) - 1;
+        return front(lanes, c).unwrap();
     }
     first_not_left(orders, left, wanted_zone(sheet, at, c))
 }

@@ -8,6 +8,8 @@ use native.Mathlib.Omega.{arith}
 use lib.ListN.{length, get_or, set}
 use lib.Dec.{ltb, eqb}
 use borrow.Author.Tests.{lt-ltb, eq-eqb}
+use Rattle.std.proofs.Common.{Some}
+use Rattle.std.specs.Option.{option_eq}
 use Rattle.words.proofs.Tests.{eqb_says, and_both, same_test}
 use Rattle.sets.specs.inner.Member.{has, Without}
 use Rattle.moves.specs.System.{pos}
@@ -26,7 +28,7 @@ use Rattle.sheet_table.specs.inner.Parts as parts
 use Rattle.crossing.specs.inner.Tables.{crossing_by, crossing_of, given_of, fronts_of}
 use Rattle.crossing.specs.inner.Sound.{Sound}
 use Rattle.crossing.proofs.Tables.{step_below, zone_is}
-use Rattle.judge_entering.specs.inner.Lanes.{lanes_of, front_at}
+use Rattle.judge_entering.specs.inner.Lanes.{lanes_of, front_at, cart_in_front}
 use Rattle.judge_entering.proofs.Holding.{front_told}
 use Rattle.net_firing.specs.declared.Tokens.{Tokens}
 use Rattle.net_firing.specs.inner.Marking.{tokens, Takes, is_ahead_in, Gives, LineGives, CanFire, Marked}
@@ -205,10 +207,8 @@ module _ (sheet ahead : List ℕ) (sound : Sound (crossing_of sheet ahead) (give
         is : front_at lanes e ≡ suc d
         is = front_told sheet lanes are e cart ∙ front.is
 
-        next : (ltb e 16 && eqb (front_at lanes e) (c + 1)) ≡ is_move_of d 0 c p
-        next = rw (lt-ltb e 16 cart, is, eq-eqb 0 p (sym first), and-true (eqb d c))
-            (same_test _ _ (λ t. let same = (eqb_says (suc d) (c + 1)).0 t in (eqb_says d c).1 (omega arith))
-            (λ t. let same = (eqb_says d c).0 t in (eqb_says (suc d) (c + 1)).1 (omega arith)))
+        next : (ltb e 16 && option_eq eqb (cart_in_front (front_at lanes e)) (Some c)) ≡ is_move_of d 0 c p
+        next = rw (lt-ltb e 16 cart, is, eq-eqb 0 p (sym first)) (sym (and-true (eqb d c)))
 
     pub lines_later : 0 < p → more ≡ lines → LinesFired X lines c p more
     lines_later some same d e f =

@@ -2,9 +2,8 @@
 use Prim.Native.Nat.{ℕ, suc, ◌+◌, ◌*◌, ◌-◌, ◌≤◌, ◌<◌, zero-le}
 use mathlib.Core.Path.{◌≡◌, refl, sym, ap, ◌∙◌}
 use mathlib.Core.Logic.{◌↔◌}
-use mathlib.Core.Bool.{Bool, true, false, true≢false, false≢true}
+use mathlib.Core.Bool.{Bool, true, false, true≢false}
 use mathlib.Core.List.{List, []}
-use native.Mathlib.Nat.{le_refl}
 use native.Mathlib.Omega.{arith}
 use lib.ListN.{get_or, replicate, length-replicate}
 use lib.Dec.{eqb}
@@ -32,48 +31,25 @@ module _ (X : Crossing) where
 
   -- ---- a round of the carts
 
-  -- the first n carts have been asked since `old`: where none has fired, none of them can
-  pub record Asking (old t : Tokens) (fired : Bool) (n : ℕ) : Type 0 where
-    pub marked : Marked X t
-    pub no_less : sum old.position ≤ sum t.position
-    pub further : fired ≡ true → sum old.position < sum t.position
-    pub none_yet : fired ≡ false → (c : ℕ) → c < n → ¬ (CanFire X t c)
-
-  pub asking_start : (t : Tokens) → Marked X t → Asking t t false 0
-  asking_start t on = record {
-    marked = on;
-    no_less = le_refl (sum t.position);
-    further = λ e. absurd (false≢true e);
-    none_yet = λ _ c below. absurd (omega arith);
-  }
-
-  module _ (old t : Tokens) (fired : Bool) (n : ℕ) (on : Asking old t fired n) where
-    pub asking_held : ¬ (CanFire X t n) → Asking old t fired (n + 1)
-    asking_held cannot = record {
+  module _ (old t : Tokens) (fired : Bool) (n : ℕ) (on : Asked X old t fired n) where
+    pub asked_held : ¬ (CanFire X t n) → Asked X old t fired (n + 1)
+    asked_held cannot = record {
       marked = on.marked;
       no_less = on.no_less;
       further = on.further;
-      none_yet = λ none. below_more _ _ (on.none_yet none) cannot;
+      none_can = λ none. below_more _ _ (on.none_can none) cannot;
     }
 
-    pub asking_fired : (next : Tokens) → n < 16 → Marked X next → next.position ≡ moved t.position n → Asking old next true (n + 1)
-    asking_fired next l marked is = record {
+    pub asked_fired : (next : Tokens) → n < 16 → Marked X next → next.position ≡ moved t.position n → Asked X old next true (n + 1)
+    asked_fired next l marked is = record {
       marked = marked;
       no_less = omega (arith, on.no_less, one_more);
       further = λ _. omega (arith, on.no_less, one_more);
-      none_yet = λ e. absurd (true≢false e);
+      none_can = λ e. absurd (true≢false e);
     }
       where
         one_more : sum next.position ≡ suc (sum t.position)
         one_more = ap sum is ∙ moved_sum t.position n (rw on.marked.position_16 l)
-
-  pub asking_end : (old t : Tokens) (fired : Bool) → Asking old t fired 16 → Asked X old t fired
-  asking_end old t fired on = record {
-    marked = on.marked;
-    no_less = on.no_less;
-    further = on.further;
-    none_can = on.none_yet;
-  }
 
   -- ---- until none fires
 
@@ -98,7 +74,7 @@ module _ (X : Crossing) where
   moves_left position = sum S.out - sum position
 
   module _ (sixteen : carts S ≡ 16) where
-    pub moves_less : (old t : Tokens) → Asked X old t true → moves_left t.position < moves_left old.position
+    pub moves_less : (old t : Tokens) → Asked X old t true 16 → moves_left t.position < moves_left old.position
     moves_less old t asked = omega (arith, most, asked.further refl)
       where
         most : sum t.position ≤ sum S.out
@@ -122,7 +98,7 @@ module _ (X : Crossing) where
         here = eqb-true (pos t.position x) r (is_one _ (rw (own_move x r) at (can.tokens (at x r) (some.0, omega (arith, e.transition)))))
 
     pub fired_out : (table : List ℕ) (old t : Tokens) (locked : Bool) → ((c : ℕ) → c < 16 → steps X c ≡ get_or table c 0)
-        → Asked X old t false → (locked ≡ false) ↔ AllPast table t.position 16 → FiredOut X (bit locked) t.position
+        → Asked X old t false 16 → (locked ≡ false) ↔ AllPast table t.position 16 → FiredOut X (bit locked) t.position
     fired_out table old t locked counted on says = record {
       sequence = on.marked.sequence;
       fires = on.marked.fires;

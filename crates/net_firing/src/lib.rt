@@ -27,23 +27,36 @@ struct Tokens {
 
 // The net as tables: a sheet's, the set of carts ahead of each of its steps, and its lanes.
 #[derive(Drop)]
-struct Net<'a> {
-    sheet: &'a Table,
-    ahead: &'a [u16; 128],
-    lanes: Lanes,
-    ghost sound: { Sound (crossing_of sheet.now ahead.now) (given_of sheet.now) } by { sound_one _ _ },
-    ghost lanes_are: { lanes ≡ lanes_of sheet.now },
+pub struct Net<'a> {
+    pub sheet: &'a Table,
+    pub ahead: &'a [u16; 128],
+    pub lanes: Lanes,
+    pub ghost sound: { Sound (crossing_of sheet.now ahead.now) (given_of sheet.now) } by { sound_one _ _ },
+    pub ghost lanes_are: { lanes ≡ lanes_of sheet.now },
 }
 
-impl Net<'_> {
-    ghost use Rattle.net_firing.specs.inner.Marking.{crossing_in, Takes, is_ahead_in, Gives, LineGives, AllPast, CanFire, Marked, Asked};
+impl<'a> Net<'a> {
+    ghost use Rattle.net_firing.specs.inner.Net.{crossing_in};
+    ghost use Rattle.net_firing.specs.inner.Marking.{Takes, is_ahead_in, Gives, LineGives, AllPast, CanFire, Marked, Asked};
+
+    pub fn of(sheet: &'a Table, ahead: &'a [u16; 128]) -> Net<'a>
+        requires { Sound (crossing_of sheet.now ahead.now) (given_of sheet.now) }
+        ensures sheet { result.sheet.now ≡ sheet.now }
+        ensures ahead { result.ahead.now ≡ ahead.now }
+    {
+        Net {
+            sheet,
+            ahead,
+            lanes: lanes(sheet),
+        }
+    }
 
     // Whether the place of the stop line before cart c's transition from p has a token, where there is such a place.
     fn line_free(&self, lines: u16, c: usize, p: usize) -> bool
         requires { c < 16 }
         ensures { (result ≡ true) ↔ (p ≡ 0 → 0 < front_at self.now.lanes c → has lines c ≡ true) }
     {
-        0 < p || front(&self.lanes, c) == 0 || carts::has(lines, c)
+        0 < p || front(&self.lanes, c).is_none() || carts::has(lines, c)
     }
 
     // Whether the transition of cart c from where it stands can fire: each place before it has a token.
@@ -97,7 +110,7 @@ impl Net<'_> {
     {
         let mut more = lines;
         for e in 0..16 {
-            if front(&self.lanes, e) == c + 1 {
+            if front(&self.lanes, e) == Some(c) {
                 more = carts::with(more, e);
             }
         }
@@ -127,7 +140,7 @@ impl Net<'_> {
     // Every cart is asked in turn, and fires its transition where that can fire; answers whether any has fired.
     fn round(&self, on: &mut Tokens) -> bool
         requires { Marked (crossing_in self.now) on.old }
-        ensures { Asked (crossing_in self.now) on.old on.new result }
+        ensures { Asked (crossing_in self.now) on.old on.new result 16 }
     {
         let mut fired = false;
         for c in 0..16 {
@@ -162,11 +175,7 @@ pub fn fire_all(sheet: &Table, ahead: &[u16; 128]) -> Fired
     requires { Sound (crossing_of sheet.now ahead.now) (given_of sheet.now) }
     ensures { FiredOut (crossing_of sheet.now ahead.now) (bit result.locked) result.position }
 {
-    let net = Net {
-        sheet,
-        ahead,
-        lanes: lanes(sheet),
-    };
+    let net = Net::of(sheet, ahead);
     let mut on = Tokens {
         pairs: [0; 128],
         lines: 0,

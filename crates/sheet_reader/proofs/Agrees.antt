@@ -7,12 +7,15 @@ use native.Mathlib.Omega.{arith}
 use lib.Dec.{eqb}
 use lib.ListN.{length, set}
 use borrow.Author.Tests.{leb-true}
+use Rattle.std.specs.Prelude.{Result, Err}
+use Rattle.words.specs.declared.Outcome.{Outcome}
 use Rattle.words.specs.Lists.{any_below, each, table}
 use Rattle.words.specs.Checks.{Check, check, first_failing}
 use Rattle.words.proofs.Any.{any_same}
 use Rattle.words.proofs.Filling.{table_none, table_next, table_used}
 use Rattle.words.proofs.Tests.{leb_says, and_says, among_more}
 use Rattle.fields.specs.Field.{outside, in_cart, in_step}
+use Rattle.fields.specs.declared.Cursor.{Cursor}
 use Rattle.fields.proofs.TakingLaws.{taking_checks, pick_checks, unless_checks}
 use Rattle.sheet.specs.Layout.{zone_count, follow_at, follow_of, cross_at, cross_of, cart_count_at, cart_count, cart_at, lane_at, lane_of, arrival_at, arrival_of}
 use Rattle.sheet.specs.Layout.{step_count_at, step_count, zone_at, zone_of, passing_at, passing_of, travel_at, travel_of, end_at}
@@ -22,15 +25,11 @@ use Rattle.sheet.specs.declared.Sheet.{Sheet}
 use Rattle.sheet.specs.declared.SheetRead.{SheetRead}
 use Rattle.sheet.proofs.Told.{cart_next}
 use Rattle.sheet_cart.specs.inner.Parts.{head_at, step_at}
-use Rattle.sheet_cart.specs.declared.Head.{Head}
-use Rattle.sheet_cart.specs.declared.Head.TheVariants.{Refused as NoHead}
+use Rattle.sheet_cart.specs.declared.CartHead.{CartHead}
 use Rattle.sheet_cart.specs.declared.Step.{Step}
-use Rattle.sheet_cart.specs.declared.Step.TheVariants.{Refused as NoStep}
-use Rattle.sheet_filling.specs.inner.Filled.{made, with_step}
+use Rattle.sheet_filling.specs.inner.Filled.{made}
 use Rattle.opening.specs.inner.Opening.{opening_by, on_opening}
-use Rattle.opening.specs.declared.Opening.{Opening}
-use Rattle.opening.specs.declared.Opening.TheVariants.{Refused}
-use Rattle.sheet_carts.specs.inner.Scan.{put_cart, early, lanes_from, finish, on_step, on_head, steps_from, carts_from}
+use Rattle.sheet_carts.specs.inner.Scan.{put_cart, put_step, early, lanes_from, finish, on_part, steps_from, carts_from}
 use Rattle.sheet_reader.specs.inner.Scan.{with_zones, count_from, zones_from, scan}
 use Rattle.sheet_reader.proofs.Tables.{passed, passed_none, passed_put, passed_cart, passed_all}
 
@@ -124,12 +123,12 @@ module _ (s : List ℕ) where
         let third : passing_at s i j + 2 ≡ travel_at s i j = omega arith in
         let fourth : travel_at s i j + 2 ≡ zone_at s i (j + 1) = omega arith in
         simp append_assoc
-        (taking_checks then NoStep done 1 s 1 (in_step i j (zone_at s i j)) 10 _ _ _ λ _ _.
+        (taking_checks then Err done 1 s 1 (in_step i j (zone_at s i j)) 10 _ _ _ λ _ _.
         rw (same (zone_of s i j))
-        (unless_checks then NoStep done 11 (in_step i j (zone_at s i j)) (is_named_before s i j) _ _
-        (taking_checks then NoStep done 1 s 2 (in_step i j (passing_at s i j)) 12 _ _ _ λ _ _.
+        (unless_checks then Err done 11 (in_step i j (zone_at s i j)) (is_named_before s i j) _ _
+        (taking_checks then Err done 1 s 2 (in_step i j (passing_at s i j)) 12 _ _ _ λ _ _.
         rw third
-        (taking_checks then NoStep done 1 s 2 (in_step i j (travel_at s i j)) 12 _ _ _ λ _ _.
+        (taking_checks then Err done 1 s 2 (in_step i j (travel_at s i j)) 12 _ _ _ λ _ _.
         rw (
           fourth,
           passed_put s (zone_of s) i j hi (omega arith),
@@ -143,10 +142,10 @@ module _ (s : List ℕ) where
         done : SheetRead
         done = sheet_done (sheet_of s)
 
-        then : Step → SheetRead
+        then : Result (Step × Cursor) Outcome → SheetRead
         then r =
-            on_step r λ zone passing travel next.
-            steps_from s i (step_count s i) n (j + 1) (λ z. named z || eqb z zone) (with_step (at_step i j) (8 * i + j) zone passing travel) next.at go
+            on_part r λ step next.
+            steps_from s i (step_count s i) n (j + 1) (λ z. named z || eqb z step.zone) (put_step (at_step i j) (8 * i + j) step) next.at go
 
     -- the sheet when cart i is next
     abbrev at_cart : ℕ → Sheet
@@ -160,10 +159,10 @@ module _ (s : List ℕ) where
         let third : step_count_at s i + 1 ≡ zone_at s i 0 = omega arith in
         let below : i < 16 = omega arith in
         simp append_assoc
-        (taking_checks then NoHead done 1 s 1 (in_cart i (lane_at s i)) 7 _ _ _ λ _ _.
-        taking_checks then NoHead done 1 s 4 (in_cart i (arrival_at s i)) 8 _ _ _ λ _ _.
+        (taking_checks then Err done 1 s 1 (in_cart i (lane_at s i)) 7 _ _ _ λ _ _.
+        taking_checks then Err done 1 s 4 (in_cart i (arrival_at s i)) 8 _ _ _ λ _ _.
         rw second
-        (taking_checks then NoHead done 1 s 1 (in_cart i (step_count_at s i)) 9 _ _ _ λ _ k.
+        (taking_checks then Err done 1 s 1 (in_cart i (step_count_at s i)) 9 _ _ _ λ _ k.
         rw (
           third,
           table_next 16 (lane_of s) i (lane_of s i) _ below refl refl,
@@ -177,9 +176,9 @@ module _ (s : List ℕ) where
         done : SheetRead
         done = sheet_done (sheet_of s)
 
-        then : Head → SheetRead
+        then : Result (CartHead × Cursor) Outcome → SheetRead
         then r =
-            on_head r λ h c.
+            on_part r λ h c.
             steps_from s i h.steps h.steps 0 (λ z. false) (put_cart (at_cart i) i h) c.at λ sh at.
             carts_from s n (i + 1) sh (set (spots i) i h.place) at
 
@@ -219,14 +218,14 @@ module _ (s : List ℕ) where
   unfolding scan opening_by read_sheet sheet_checks
   scan_agrees =
       simp append_assoc
-      (taking_checks then Refused done 1 s 1 (outside 0) 2 _ _ _ λ _ _.
-      taking_checks then Refused done 1 s 2 (outside 1) 3 _ _ _ λ _ _.
-      taking_checks then Refused done 1 s 1 (outside 3) 4 _ _ _ λ _ n.
+      (taking_checks then Err done 1 s 1 (outside 0) 2 _ _ _ λ _ _.
+      taking_checks then Err done 1 s 2 (outside 1) 3 _ _ _ λ _ _.
+      taking_checks then Err done 1 s 1 (outside 3) 4 _ _ _ λ _ n.
       ap (λ (sh : Sheet). zones_from s (zone_count s) 0 sh 4) (sym nothing_yet)
       ∙ zones_agree (zone_count s) 0 ((and_says _ _ (leb_says 1 (zone_count s)) (leb_says (zone_count s) 24)).0 n).1 (omega arith))
     where
       done : SheetRead
       done = sheet_done (sheet_of s)
 
-      then : Opening → SheetRead
+      then : Result (ℕ × Cursor) Outcome → SheetRead
       then r = on_opening sheet_refused r λ n c. zones_from s n 0 (with_zones blank n) c.at

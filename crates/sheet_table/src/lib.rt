@@ -31,12 +31,6 @@ pub fn entry(sheet: &Table, from: usize, n: usize, i: usize) -> u32
     sheet[from + i]
 }
 
-fn number(value: u32) -> usize
-    ensures { result ≡ value }
-{
-    value as usize
-}
-
 // A byte of another table beside the sheet's numbers.
 pub fn wide(byte: u8) -> usize
     ensures { (result ≡ byte) × (result < 256) }
@@ -65,7 +59,7 @@ pub fn lane(sheet: &Table, c: usize) -> usize
     requires { c < 16 }
     ensures { result ≡ get_or (lane sheet.now) c 0 }
 {
-    number(entry(sheet, LANE, 16, c))
+    entry(sheet, LANE, 16, c) as usize
 }
 
 // The arrival of cart c.
@@ -81,7 +75,7 @@ pub fn steps(sheet: &Table, c: usize) -> usize
     requires { c < 16 }
     ensures { result ≡ get_or (steps sheet.now) c 0 }
 {
-    number(entry(sheet, STEPS, 16, c))
+    entry(sheet, STEPS, 16, c) as usize
 }
 
 // The zone of the step at x.
@@ -89,7 +83,7 @@ pub fn zone(sheet: &Table, x: usize) -> usize
     requires { x < 128 }
     ensures { result ≡ get_or (zone sheet.now) x 0 }
 {
-    number(entry(sheet, ZONE, 128, x))
+    entry(sheet, ZONE, 128, x) as usize
 }
 
 // The passing time of the step at x.

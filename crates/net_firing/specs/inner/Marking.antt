@@ -1,18 +1,13 @@
 -- A marking as tables: for each step the carts whose pair place before it has a token, the carts whose line place has one, and each cart's state place.
-use Rattle.std.specs.Prelude.{ℕ, ◌+◌, ◌*◌, ◌≤◌, ◌<◌, ◌≡◌, Bool, true, false, not, ◌&&◌, ◌||◌, List, length, get_or, ltb, eqb}
+use Rattle.std.specs.Prelude.{ℕ, ◌+◌, ◌*◌, ◌≤◌, ◌<◌, ◌≡◌, Bool, true, false, not, ◌&&◌, ◌||◌, List, length, get_or, ltb, eqb, Some}
+use Rattle.std.specs.Option.{option_eq}
 use Rattle.sets.specs.inner.Member.{has}
 use Rattle.moves.specs.System.{pos, sum}
 use Rattle.routes.specs.Crossing.{Crossing, steps}
 use Rattle.routes.specs.Moves.{moves_of}
-use Rattle.judge_entering.specs.inner.Lanes.{front_at}
+use Rattle.judge_entering.specs.inner.Lanes.{front_at, cart_in_front}
 use Rattle.petri.specs.Net.{Place, at, between, line, Marking, one, begins, IsPlace, Enabled, Fires, fired_all}
-use Rattle.crossing.specs.inner.Tables.{crossing_of}
-use Rattle.net_firing.specs.declared.Net.{Net}
 use Rattle.net_firing.specs.declared.Tokens.{Tokens}
-
--- the crossing that the net's tables stand for
-abbrev pub crossing_in : Net → Crossing
-crossing_in net = crossing_of net.sheet.now net.ahead.now
 
 -- the tokens that the tables have
 abbrev pub tokens : Tokens → Marking
@@ -39,7 +34,7 @@ Gives zone ahead pairs z c n after =
 
 -- the line places of those of the first n carts that have cart c next in front have got a token
 abbrev pub LineGives : List ℕ → ℕ → ℕ → ℕ → ℕ → Type 0
-LineGives lanes lines c n after = Upto (has lines) (λ e. eqb (front_at lanes e) (c + 1)) n (has after)
+LineGives lanes lines c n after = Upto (has lines) (λ e. option_eq eqb (cart_in_front (front_at lanes e)) (Some c)) n (has after)
 
 -- those of the first n carts that have steps stand past their last
 abbrev pub AllPast : List ℕ → List ℕ → ℕ → Type 0
@@ -59,9 +54,9 @@ module _ (X : Crossing) where
     pub position_16 : length t.position ≡ 16
     pub within : (c : ℕ) → pos t.position c ≤ moves_of (steps X c)
 
-  -- every cart has been asked once: where a transition has fired there are more moves than in `old`, else none can fire
-  pub record Asked (old t : Tokens) (fired : Bool) : Type 0 where
+  -- the first n carts have been asked once: where a transition has fired there are more moves than in `old`, else none of them can fire
+  pub record Asked (old t : Tokens) (fired : Bool) (n : ℕ) : Type 0 where
     pub marked : Marked t
     pub no_less : sum old.position ≤ sum t.position
     pub further : fired ≡ true → sum old.position < sum t.position
-    pub none_can : fired ≡ false → (c : ℕ) → c < 16 → ¬ (CanFire t c)
+    pub none_can : fired ≡ false → (c : ℕ) → c < n → ¬ (CanFire t c)

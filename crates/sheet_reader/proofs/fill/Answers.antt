@@ -1,29 +1,27 @@
 -- Each part of the pass leaves the rest to the next, or its refusal is the answer.
 use mathlib.Core.Path.{sym, ◌∙◌}
-use mathlib.Core.Logic.{inr}
 use lib.Dec.{lit<}
-use Rattle.words.proofs.Leaving.{left_refused, left_then, left_whole}
-use Rattle.sheet.specs.Reading.{sheet_refused}
+use Rattle.std.proofs.Common.{rules}
+use Rattle.std.proofs.lemmas.Result.{err_from_is_err_and}
 use Rattle.opening.proofs.OpeningLaws.{opening_between, opening_refused}
 use Rattle.sheet_reader.proofs.Parts.{begins, begins_refused}
 use Rattle.sheet_reader.proofs.fill.Goals as goal
 
-pub read_counts-counts-requires : goal.read_counts-counts-requires
-read_counts-counts-requires c = (opening_between _ 1 1 24 (lit< tt) _ _ (sym c.read_opening-opening.ensures ∙
-    c.in-Zones.is)).1
+pub returns-in_err-zones : goal.returns-in_err-zones
+returns-in_err-zones c = let p = err_from_is_err_and c.from_residual.result c.from_residual.ensures.1 in let e = sym c.in_err-zones.ensures in rw
+    (p.1, p.2) (opening_refused _ 1 1 24 (lit< tt) _ e, begins_refused _ _ e)
 
-pub returns-then-outcome-ne0 : goal.returns-then-outcome-ne0
-returns-then-outcome-ne0 c = inr (left_refused sheet_refused (left_whole sheet_refused (begins _ _ _ _
-    (sym c.read_opening-opening.ensures ∙
-    c.in-Zones.is) c.requires) c.read_counts-counts.ensures.2) c.if-outcome-ne0.true)
+pub read_counts-requires : goal.read_counts-requires
+read_counts-requires c = (opening_between _ 1 1 24 (lit< tt) _ _ (sym c.in_ok-zones.ensures)).1
 
-pub returns-in-Refused : goal.returns-in-Refused
-returns-in-Refused c = let e = sym c.read_opening-opening.ensures ∙ c.in-Refused.is in rw
-    c.no_counts.ensures.0 (inr (opening_refused _ 1 1 24 (lit< tt) _ e, begins_refused _ _ e))
+pub returns-in_err-carts : goal.returns-in_err-carts
+returns-in_err-carts c = rw (begins _ _ _ _ (sym c.in_ok-zones.ensures) c.requires) (search rules)
 
-pub returns-else-outcome-ne0 : goal.returns-else-outcome-ne0
-returns-else-outcome-ne0 c = left_then sheet_refused (left_whole sheet_refused (begins _ _ _ _
-    (sym c.read_opening-opening.ensures ∙
-    c.in-Zones.is)
-    c.requires)
-    c.read_counts-counts.ensures.2) c.if-outcome-ne0.false c.read_carts-counts.ensures
+pub read_carts-requires : goal.read_carts-requires
+read_carts-requires c = ((opening_between _ 1 1 24 (lit< tt) _ _ (sym c.in_ok-zones.ensures)).1, c.in_ok-carts.ensures.few)
+
+pub returns-in_err-read_carts : goal.returns-in_err-read_carts
+returns-in_err-read_carts c = rw (begins _ _ _ _ (sym c.in_ok-zones.ensures) c.requires, c.in_ok-carts.ensures.read) (search rules)
+
+pub returns : goal.returns
+returns c = begins _ _ _ _ (sym c.in_ok-zones.ensures) c.requires ∙ c.in_ok-carts.ensures.read ∙ c.in_ok-read_carts.ensures

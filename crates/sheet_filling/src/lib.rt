@@ -1,13 +1,14 @@
 // A sheet's table filled, and the sheet that it stands for as a struct.
 #![tactic(auto, unfolding(sheet_table::specs::inner::Parts::follow, sheet_table::specs::inner::Parts::cross, sheet_table::specs::inner::Parts::lane, sheet_table::specs::inner::Parts::arrival, sheet_table::specs::inner::Parts::steps, sheet_table::specs::inner::Parts::zone, sheet_table::specs::inner::Parts::passing, sheet_table::specs::inner::Parts::travel))]
 
-ghost use Rattle.std.specs.Prelude.{ℕ, ◌<◌, ◌≡◌, length, get_or};
+ghost use Rattle.std.specs.Prelude.{ℕ, ◌<◌, ◌≡◌};
 ghost use Rattle.sheet.specs.Valid.{Valid};
 ghost use Rattle.sheet_table.specs.inner.Parts.{steps};
 ghost use Rattle.sheet_filling.specs.inner.Filled.{sheet_in, with_gaps, with_cart, with_step, Entries};
 
 use sheet::Sheet;
 use sheet_table::Table;
+use std::array::from_fn;
 
 // Zone z's gaps are stored.
 pub fn put_gaps(sheet: &mut Table, z: usize, follow: u32, cross: u32)
@@ -38,36 +39,12 @@ pub fn put_step(sheet: &mut Table, x: usize, zone: u8, passing: u16, travel: u16
     sheet.travel[x] = travel as u32;
 }
 
-// A part whose entries are bytes.
-fn bytes<const N: usize>(part: &[u32; N]) -> [u8; N]
-    requires { (k : ℕ) → k < length part.now → get_or part.now k 0 < 256 }
-    ensures { result ≡ part.now }
-{
-    let mut out = [0u8; N];
-    for k in 0..N {
-        out[k] = part[k] as u8;
-    }
-    out
-}
-
-// A part whose entries are gaps or times.
-fn halves<const N: usize>(part: &[u32; N]) -> [u16; N]
-    requires { (k : ℕ) → k < length part.now → get_or part.now k 0 < 65536 }
-    ensures { result ≡ part.now }
-{
-    let mut out = [0u16; N];
-    for k in 0..N {
-        out[k] = part[k] as u16;
-    }
-    out
-}
-
 // The step counts, as bytes.
 pub fn step_counts(sheet: &Table) -> [u8; 16]
     requires { Entries 16 255 (steps sheet.now) }
     ensures { result ≡ steps sheet.now }
 {
-    bytes(&sheet.steps)
+    from_fn(|c| sheet.steps(c) as u8)
 }
 
 // The valid sheet that a table stands for, as a struct.
@@ -77,14 +54,14 @@ pub fn sheet_of(zones: usize, carts: usize, sheet: &Table) -> Sheet
 {
     Sheet {
         zones,
-        follow: halves(&sheet.follow),
-        cross: halves(&sheet.cross),
+        follow: from_fn(|z| sheet.follow(z) as u16),
+        cross: from_fn(|z| sheet.cross(z) as u16),
         carts,
-        lane: bytes(&sheet.lane),
+        lane: from_fn(|c| sheet.lane(c) as u8),
         arrival: sheet.arrival,
         steps: step_counts(sheet),
-        zone: bytes(&sheet.zone),
-        passing: halves(&sheet.passing),
-        travel: halves(&sheet.travel),
+        zone: from_fn(|x| sheet.zone(x) as u8),
+        passing: from_fn(|x| sheet.passing(x) as u16),
+        travel: from_fn(|x| sheet.travel(x) as u16),
     }
 }

@@ -1,34 +1,31 @@
--- A valid sheet's parts are in range, so each is copied whole.
-use native.Mathlib.Omega.{arith}
+-- A valid sheet's entries fit their fields, so each closure gives the entries of a part.
 use lib.Dec.{lit<}
-use Rattle.sheet_filling.proofs.Ranges.{follow_entries, cross_entries, lane_entries, steps_entries, zone_entries}
-use Rattle.sheet_filling.proofs.Ranges.{passing_entries, travel_entries}
-use Rattle.sheet_table.specs.inner.Parts.{follow, cross, lane, zone, passing, travel}
+use Rattle.std.proofs.Common.{rules}
+use Rattle.sheet_filling.proofs.Ranges.{steps_entries, zone_entries, passing_entries, travel_entries}
+use Rattle.sheet_filling.proofs.Calls.{calls_taken, calls_give}
+use Rattle.sheet_table.specs.inner.Parts.{arrival}
 use Rattle.sheet_filling.proofs.sheet_of.Goals as goal
-
-pub halves-requires : goal.halves-requires
-unfolding follow
-halves-requires c = (lit< tt, (lit< tt, λ k l. omega (arith, (follow_entries _ c.requires).range k)))
-
-pub halves-requires-2 : goal.halves-requires-2
-unfolding cross
-halves-requires-2 c = (lit< tt, (lit< tt, λ k l. omega (arith, (cross_entries _ c.requires).range k)))
-
-pub bytes-requires : goal.bytes-requires
-unfolding lane
-bytes-requires c = (lit< tt, (lit< tt, λ k l. omega (arith, (lane_entries _ c.requires).range k)))
 
 pub step_counts-requires : goal.step_counts-requires
 step_counts-requires c = steps_entries _ c.requires
 
-pub bytes-requires-2 : goal.bytes-requires-2
-unfolding zone
-bytes-requires-2 c = (lit< tt, (lit< tt, λ k l. omega (arith, (zone_entries _ c.requires).range k)))
+pub from_fn-requires-4 : goal.from_fn-requires-4
+from_fn-requires-4 c = (lit< tt, calls_taken _ _ _ (λ i r q k. search rules) (λ i l. let e = (zone_entries _ c.requires).range i in search rules))
 
-pub halves-requires-3 : goal.halves-requires-3
-unfolding passing
-halves-requires-3 c = (lit< tt, (lit< tt, λ k l. omega (arith, (passing_entries _ c.requires).range k)))
+pub from_fn-requires-5 : goal.from_fn-requires-5
+from_fn-requires-5 c = (lit< tt, calls_taken _ _ _ (λ i r q k. search rules) (λ i l. let e = (passing_entries _ c.requires).range i in search rules))
 
-pub halves-requires-4 : goal.halves-requires-4
-unfolding travel
-halves-requires-4 c = (lit< tt, (lit< tt, λ k l. omega (arith, (travel_entries _ c.requires).range k)))
+pub from_fn-requires-6 : goal.from_fn-requires-6
+from_fn-requires-6 c = (lit< tt, calls_taken _ _ _ (λ i r q k. search rules) (λ i l. let e = (travel_entries _ c.requires).range i in search rules))
+
+pub returns : goal.returns
+unfolding arrival
+returns c = rw (
+  calls_give _ _ _ _ _ (λ i r q l k. search rules) c.requires.shaped.follow_24 c.from_fn.ensures.items,
+  calls_give _ _ _ _ _ (λ i r q l k. search rules) c.requires.shaped.cross_24 c.from_fn-2.ensures.items,
+  calls_give _ _ _ _ _ (λ i r q l k. search rules) c.requires.shaped.lane_16 c.from_fn-3.ensures.items,
+  c.step_counts.ensures,
+  calls_give _ _ _ _ _ (λ i r q l k. search rules) c.requires.shaped.zone_128 c.from_fn-4.ensures.items,
+  calls_give _ _ _ _ _ (λ i r q l k. search rules) c.requires.shaped.passing_128 c.from_fn-5.ensures.items,
+  calls_give _ _ _ _ _ (λ i r q l k. search rules) c.requires.shaped.travel_128 c.from_fn-6.ensures.items,
+)

@@ -24,11 +24,12 @@ use Rattle.judge_one_move.specs.inner.Running.{Joins}
 use Rattle.judge_one_move.proofs.Left.{left_same, left_joined}
 use Rattle.judge_one_move.proofs.Steps.{counted, steps_8, inside, zone_at, zone_few, x_few, enter_says, out_may}
 use Rattle.judge_all_out.specs.inner.Turns.{HaveMoved, CanGoOn, GoneOn}
+use Rattle.sheet_table.specs.declared.Table.{Table}
 
 pub in_range : (X : Crossing) (at left : List ℕ) → HaveMoved X at left → InRange (system X) at
 in_range X at left on = reaches_in_range (system X) (start (system X)) at (start_in_range (system X)) on.reached
 
-module _ (sheet ahead : List ℕ) where
+module _ (sheet : Table) (ahead : List ℕ) where
   abbrev X : Crossing
   X = crossing_of sheet ahead
 

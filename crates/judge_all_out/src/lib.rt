@@ -23,17 +23,17 @@ fn go_on(sheet: &Table, ahead: &[u16; 128], at: &[u8; 16], left: &mut [u16; 24],
     let from = at[c] as usize;
     // From the lane no zone is left.
     if 0 < from {
-        join(left, sheet_table::zone(sheet, 8 * c + from - 1), c);
+        join(left, sheet.zone(8 * c + from - 1), c);
     }
-    let k = sheet_table::steps(sheet, c);
+    let k = sheet.steps(c);
     for p in from + 1..k {
         let x = 8 * c + p;
         if !may_enter(sheet, ahead, left, x) {
             return p as u8;
         }
-        join(left, sheet_table::zone(sheet, x - 1), c);
+        join(left, sheet.zone(x - 1), c);
     }
-    join(left, sheet_table::zone(sheet, 8 * c + k - 1), c);
+    join(left, sheet.zone(8 * c + k - 1), c);
     (k + 1) as u8
 }
 
@@ -60,7 +60,7 @@ fn turn_of(
         if may_go_in(sheet, lanes, ahead, at, left, c) {
             at[c] = go_on(sheet, ahead, at, left, c);
             moved = true;
-            if sheet_table::steps(sheet, c) < at[c] as usize {
+            if sheet.steps(c) < at[c] as usize {
                 still = carts::without(still, c);
             }
         }

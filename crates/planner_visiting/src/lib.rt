@@ -13,9 +13,9 @@ pub fn visit_places(sheet: &Table) -> [u8; 384]
 {
     let mut visit = [0u8; 384];
     for c in 0..16 {
-        for j in 0..sheet_table::steps(sheet, c) {
+        for j in 0..sheet.steps(c) {
             let x = 8 * c + j;
-            let z = sheet_table::zone(sheet, x);
+            let z = sheet.zone(x);
             visit[16 * z + c] = x as u8;
         }
     }

@@ -64,7 +64,7 @@ pub fn judge(s: &[u8], p: &[u8], words: &mut [u32]) -> Judged
     ensures answer { result ≡ judge s.now p.now (length words.old) }
     ensures holds { words.new ≡ words_after s.now p.now words.old }
 {
-    let mut sheet = [0; 480];
+    let mut sheet = Table::blank();
     let mut orders = no_orders();
     match read_tables(s, p, &mut sheet, &mut orders) {
         Ok(_) => judge_orders(&sheet, &orders, words),

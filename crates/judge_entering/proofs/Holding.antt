@@ -1,13 +1,11 @@
 -- By the lanes' table the lane holds a cart exactly where the table has a cart in front of it and both stand at the start.
-use Prim.Native.Nat.{ℕ, ◌-◌, ◌≤◌, ◌<◌}
+use Prim.Native.Nat.{ℕ, ◌≤◌, ◌<◌}
 use mathlib.Core.Path.{◌≡◌, refl, sym, ap, ◌∙◌}
 use mathlib.Core.Logic.{◌↔◌}
 use mathlib.Core.Bool.{Bool, true, false, not, false≢true, not-eq-not}
 use mathlib.Core.List.{List}
 use native.Mathlib.Omega.{arith}
 use lib.ListN.{get_or}
-use lib.Dec.{ltb}
-use Rattle.words.proofs.Tests.{ltb_says}
 use Rattle.routes.specs.Crossing.{Crossing}
 use Rattle.routes.specs.Lanes.{lane_holds}
 use Rattle.routes.proofs.Lanes.{holds_says}
@@ -16,13 +14,6 @@ use Rattle.crossing.specs.inner.Tables.{fronts_of, crossing_by, crossing_of, Fro
 use Rattle.crossing.proofs.Fronts.{fronts_16, gone_free}
 use Rattle.judge_entering.specs.inner.Lanes.{lanes_of, front_at}
 use Rattle.judge_entering.proofs.LaneLaws.{front_entry}
-
--- an entry that is not 0 is one more than the cart whose position is asked
-pub front_says : (at : List ℕ) (f : ℕ) → ¬ (f ≡ 0) → (ltb 0 (get_or at (f - 1) 0) ≡ true) ↔ FrontGone f at
-front_says at f some = (
-  λ t d is. let same : f - 1 ≡ d = omega arith in rw same at ((ltb_says 0 (get_or at (f - 1) 0)).0 t),
-  λ gone. (ltb_says 0 (get_or at (f - 1) 0)).1 (gone (f - 1) (omega (arith, some))),
-)
 
 module _ (sheet lanes : List ℕ) (are : lanes ≡ lanes_of sheet) (c : ℕ) (l : c < 16) where
   -- the lanes' table has the table of fronts

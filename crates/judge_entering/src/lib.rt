@@ -1,7 +1,7 @@
 // When a cart enters a zone: as soon as it is ready and clear of every cart ahead.
 #![tactic(auto)]
 
-ghost use Rattle.std.specs.Prelude.{◌≡◌, ◌↔◌, true, List, ℕ, ◌≤◌, ◌<◌, max, get_or, set};
+ghost use Rattle.std.specs.Prelude.{◌≡◌, ◌↔◌, true, List, ℕ, ◌≤◌, ◌<◌, get_or, set};
 ghost use Rattle.words.specs.Limits.{most_time};
 ghost use Rattle.words.specs.inner.Limits.{latest_leaving};
 ghost use Rattle.sets.specs.inner.Member.{has};
@@ -12,6 +12,7 @@ ghost use Rattle.judge_entering.specs.inner.Lanes.{
   lanes_of,
   mates_of,
   front_at,
+  cart_in_front,
   present_lanes,
   member_before,
   Foremost,
@@ -33,8 +34,7 @@ pub fn lanes(sheet: &Table) -> Lanes
 {
     let mut lanes = [0u16; 32];
     let mut latest = [0u16; 16];
-    let mut c = 0;
-    while c < 16 {
+    for c in 0..16 {
         let l = sheet_table::lane(sheet, c);
         lanes[l] = carts::with(lanes[l], c);
         // An absent cart is on no lane.
@@ -42,7 +42,6 @@ pub fn lanes(sheet: &Table) -> Lanes
             lanes[16 + c] = latest[l];
             latest[l] = c as u16 + 1;
         }
-        c += 1;
     }
     lanes
 }
@@ -61,13 +60,11 @@ pub fn present_lanes(sheet: &Table) -> [u16; 16]
     ensures { result ≡ present_lanes sheet.now }
 {
     let mut on = [0u16; 16];
-    let mut c = 0;
-    while c < 16 {
+    for c in 0..16 {
         if 0 < sheet_table::steps(sheet, c) {
             let l = sheet_table::lane(sheet, c);
             on[l] = carts::with(on[l], c);
         }
-        c += 1;
     }
     on
 }
@@ -77,10 +74,8 @@ pub fn foremost(on: &[u16; 16]) -> u16
     ensures { Foremost on.now 16 result }
 {
     let mut set = 0;
-    let mut l = 0;
-    while l < 16 {
-        set = carts::joined(set, carts::first(on[l]));
-        l += 1;
+    for &mates in on {
+        set = carts::joined(set, carts::first(mates));
     }
     set
 }
@@ -93,18 +88,12 @@ pub fn next_behind(mates: u16, c: usize) -> u16
     carts::first(carts::less(mates, carts::below(mates, c + 1)))
 }
 
-fn number(value: u16) -> usize
-    ensures { result ≡ value }
-{
-    value as usize
-}
-
-// One more than the cart next in front of cart c on its lane; 0 where there is none.
-pub fn front(lanes: &Lanes, c: usize) -> usize
+// The cart next in front of cart c on its lane, where there is one.
+pub fn front(lanes: &Lanes, c: usize) -> Option<usize>
     requires { c < 16 }
-    ensures { result ≡ front_at lanes.now c }
+    ensures { result ≡ cart_in_front (front_at lanes.now c) }
 {
-    number(lanes[16 + c])
+    usize::from(lanes[16 + c]).checked_sub(1)
 }
 
 // Whether whoever is next in front of cart c on its lane has made its first move.
@@ -112,11 +101,7 @@ pub fn front_gone(lanes: &Lanes, at: &[u8; 16], c: usize) -> bool
     requires { (c < 16) × (front_at lanes.now c ≤ 16) }
     ensures { (result ≡ true) ↔ FrontGone (front_at lanes.now c) at.now }
 {
-    let f = front(lanes, c);
-    if f == 0 {
-        return true;
-    }
-    0 < at[f - 1]
+    front(lanes, c).is_none_or(|d| 0 < at[d])
 }
 
 // Whether the lane holds cart c, whatever the orders in the zones: neither it nor the cart in front of it has made its first move.
@@ -128,13 +113,6 @@ pub fn lane_holds(lanes: &Lanes, at: &[u8; 16], c: usize) -> bool
         return false;
     }
     !front_gone(lanes, at, c)
-}
-
-// The later of two times.
-pub fn later(a: u32, b: u32) -> u32
-    ensures { result ≡ max a b }
-{
-    if a < b { b } else { a }
 }
 
 // The first entering time of the cart next in front of cart c, of the carts on its lane; 0 where there is none.
@@ -159,7 +137,7 @@ fn latest_clear(leave: &[u32; 384], z: usize, gap: u32, members: u16, ready: u32
     while 0 < others {
         let d = carts::lowest(others);
         others = carts::rest(others);
-        time = later(time, leave[16 * z + d] + gap);
+        time = time.max(leave[16 * z + d] + gap);
     }
     time
 }

@@ -10,8 +10,10 @@ ghost use Rattle.judge_ring.specs.inner.Tables.{NotOutIn, StuckIn, wanted_in, Wa
 ghost use Rattle.judge_ring.specs.inner.Tables.{Listable, Pointable, ByTable, by_table};
 
 use judge_entering::{Lanes, front, lane_holds};
+use plan::Orders;
 use sets::carts;
-use sheet_table::{Table, wide};
+use sheet_table::Table;
+use std::array;
 
 // The carts that wait for each other in a circle, begun at the lowest, each with the zone that it wants. Unused entries are 0.
 #[repr(C)]
@@ -38,7 +40,7 @@ pub fn wanted_zone(sheet: &Table, at: &[u8; 16], c: usize) -> usize
     requires { (c < 16) × (get_or (steps sheet.now) c 0 ≤ 8) × (wanted_in (steps sheet.now) (zone sheet.now) at.now c < 24) }
     ensures { result ≡ wanted_in (steps sheet.now) (zone sheet.now) at.now c }
 {
-    let p = wide(at[c]);
+    let p = at[c] as usize;
     if p < sheet_table::steps(sheet, c) {
         return sheet_table::zone(sheet, 8 * c + p);
     }
@@ -46,18 +48,16 @@ pub fn wanted_zone(sheet: &Table, at: &[u8; 16], c: usize) -> usize
 }
 
 // The first cart in zone z's list which has not left it.
-fn first_not_left<'a>(count: &'a [u8; 24], list: &'a [u8; 384], left: &[u16; 24], z: usize) -> usize
-    requires { (z < 24) × Listable count.now list.now z }
-    ensures { (result ≡ first_not_left count.now list.now left.now z) × (result < 16) }
+fn first_not_left(orders: &Orders, left: &[u16; 24], z: usize) -> usize
+    requires { (z < 24) × Listable orders.now.count orders.now.list z }
+    ensures { (result ≡ first_not_left orders.now.count orders.now.list left.now z) × (result < 16) }
 {
-    let n = count[z] as usize;
-    let mut k = 0;
-    while k < n {
-        let d = list[16 * z + k] as usize;
+    let n = orders.count[z] as usize;
+    for k in 0..n {
+        let d = orders.list[16 * z + k] as usize;
         if !carts::has(left[z], d) {
             return d;
         }
-        k += 1;
     }
     0
 }
@@ -68,10 +68,8 @@ fn follow_on(to: &[u8; 16], c: usize) -> usize
     ensures { (result ≡ follow (by_table to.now) 16 c) × (result < 16) }
 {
     let mut d = c;
-    let mut k: usize = 0;
-    while k < 16 {
+    for _ in 0..to.len() {
         d = to[d] as usize;
-        k += 1;
     }
     d
 }
@@ -83,11 +81,9 @@ fn least_from(to: &[u8; 16], c: usize) -> usize
 {
     let mut least = c;
     let mut d = c;
-    let mut k: usize = 0;
-    while k < 16 {
+    for _ in 0..to.len() {
         d = to[d] as usize;
-        least = words::least(least, d);
-        k += 1;
+        least = least.min(d);
     }
     least
 }
@@ -97,54 +93,41 @@ pub fn wanted_zones(sheet: &Table, at: &[u8; 16]) -> [u8; 16]
     requires { Wanting (steps sheet.now) (zone sheet.now) at.now }
     ensures { result ≡ entries 16 0 (wanted_in (steps sheet.now) (zone sheet.now) at.now) }
 {
-    let mut wanted = [0u8; 16];
-    let mut c = 0;
-    while c < 16 {
-        wanted[c] = wanted_zone(sheet, at, c) as u8;
-        c += 1;
-    }
-    wanted
+    array::from_fn(|c| wanted_zone(sheet, at, c) as u8)
 }
 
 // The cart that cart c points to: the one in front where the lane holds it, else the first in the wanted zone's list which has not left it.
-pub fn points_to<'a>(
+pub fn points_to(
     sheet: &Table,
     lanes: &Lanes,
-    count: &'a [u8; 24],
-    list: &'a [u8; 384],
+    orders: &Orders,
     at: &[u8; 16],
     left: &[u16; 24],
     c: usize,
 ) -> usize
-    requires { Pointable sheet.now lanes.now count.now list.now at.now × (c < 16) }
-    ensures { (result ≡ point_of sheet.now count.now list.now at.now left.now c) × (result < 16) }
+    requires { Pointable sheet.now lanes.now orders.now.count orders.now.list at.now × (c < 16) }
+    ensures { (result ≡ point_of sheet.now orders.now.count orders.now.list at.now left.now c)
+        × (result < 16) }
 {
     if lane_holds(lanes, at, c) {
-        return front(lanes, c) - 1;
+        return front(lanes, c).unwrap();
     }
-    first_not_left(count, list, left, wanted_zone(sheet, at, c))
+    first_not_left(orders, left, wanted_zone(sheet, at, c))
 }
 
 // The cart that each cart points to.
-fn pointing<'a>(
+fn pointing(
     sheet: &Table,
     lanes: &Lanes,
-    count: &'a [u8; 24],
-    list: &'a [u8; 384],
+    orders: &Orders,
     at: &[u8; 16],
     left: &[u16; 24],
 ) -> [u8; 16]
-    requires { Pointable sheet.now lanes.now count.now list.now at.now }
-    ensures { (result ≡ entries 16 0 (point_of sheet.now count.now list.now at.now left.now))
+    requires { Pointable sheet.now lanes.now orders.now.count orders.now.list at.now }
+    ensures { (result ≡ entries 16 0 (point_of sheet.now orders.now.count orders.now.list at.now left.now))
         × ByTable result }
 {
-    let mut to = [0u8; 16];
-    let mut c = 0;
-    while c < 16 {
-        to[c] = points_to(sheet, lanes, count, list, at, left, c) as u8;
-        c += 1;
-    }
-    to
+    array::from_fn(|c| points_to(sheet, lanes, orders, at, left, c) as u8)
 }
 
 // The ring that pointing comes to from cart c: its lowest cart, then each that follows until the lowest comes again.
@@ -173,21 +156,20 @@ fn ring_by(to: &[u8; 16], wanted: &[u8; 16], c: usize) -> Ring
 }
 
 // The ring that pointing comes to from cart c, where the carts stand and have left zones as the tables say.
-pub fn ring_of<'a>(
+pub fn ring_of(
     sheet: &Table,
     lanes: &Lanes,
-    count: &'a [u8; 24],
-    list: &'a [u8; 384],
+    orders: &Orders,
     at: &[u8; 16],
     left: &[u16; 24],
     c: usize,
 ) -> Ring
-    requires { Pointable sheet.now lanes.now count.now list.now at.now × (c < 16) }
-    ensures { result ≡ ring_by (point_of sheet.now count.now list.now at.now left.now)
+    requires { Pointable sheet.now lanes.now orders.now.count orders.now.list at.now × (c < 16) }
+    ensures { result ≡ ring_by (point_of sheet.now orders.now.count orders.now.list at.now left.now)
         (wanted_in (steps sheet.now) (zone sheet.now) at.now) 16 c }
 {
     let wanted = wanted_zones(sheet, at);
-    let to = pointing(sheet, lanes, count, list, at, left);
+    let to = pointing(sheet, lanes, orders, at, left);
     ring_by(&to, &wanted, c)
 }
 
@@ -197,22 +179,12 @@ fn not_out(sheet: &Table, at: &[u8; 16], c: usize) -> bool
     ensures { (result ≡ true) ↔ NotOutIn (steps sheet.now) at.now c }
 {
     let k = sheet_table::steps(sheet, c);
-    if k == 0 {
-        return false;
-    }
-    wide(at[c]) <= k
+    0 < k && at[c] as usize <= k
 }
 
-// The lowest cart that is not out; 16 where all are.
-pub fn lowest_stuck(sheet: &Table, at: &[u8; 16]) -> usize
+// The lowest cart that is not out; none where all are.
+pub fn lowest_stuck(sheet: &Table, at: &[u8; 16]) -> Option<usize>
     ensures { StuckIn (steps sheet.now) at.now result }
 {
-    let mut c = 0;
-    while c < 16 {
-        if not_out(sheet, at, c) {
-            return c;
-        }
-        c += 1;
-    }
-    c
+    (0..16).find(|c| not_out(sheet, at, *c))
 }

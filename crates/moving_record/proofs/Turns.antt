@@ -33,7 +33,7 @@ module _ (step_table zone_table lane_table ahead_table at : List ℕ) where
   pub closed_lines : Closed (system X) at → AllInLine (λ c. get_or fronts c 0) at
   closed_lines closed c l started d is =
       let front = (front_says X d c).1 (front_lower step_table zone_table lane_table ahead_table d c is).1 in
-      le_trans (need_line X c d front) (closed c 0 d started (front_cart X d c front))
+      le_trans (need_line X c d front) (closed c 0 d (omega arith) (front_cart X d c front))
 
   module _ (orderly : Orderly step_table zone_table lane_table ahead_table) (left : List ℕ) (left_is : (z : ℕ) → LeftSet X at z (get_or left z 0)) where
     module _ (c j : ℕ) (l : c < 16) (h : j < steps X c) where

@@ -8,6 +8,8 @@ use native.Mathlib.Omega.{arith}
 use lib.ListN.{length, get_or, set}
 use lib.Dec.{ltb, eqb}
 use borrow.Author.Tests.{lt-ltb, eq-eqb}
+use Rattle.std.proofs.Common.{Some}
+use Rattle.std.specs.Option.{option_eq}
 use Rattle.words.proofs.Tests.{eqb_says, and_both, same_test}
 use Rattle.sets.specs.inner.Member.{has, Without}
 use Rattle.moves.specs.System.{pos}
@@ -26,8 +28,9 @@ use Rattle.sheet_table.specs.inner.Parts as parts
 use Rattle.crossing.specs.inner.Tables.{crossing_by, crossing_of, given_of, fronts_of}
 use Rattle.crossing.specs.inner.Sound.{Sound}
 use Rattle.crossing.proofs.Tables.{step_below, zone_is}
-use Rattle.judge_entering.specs.inner.Lanes.{lanes_of, front_at}
+use Rattle.judge_entering.specs.inner.Lanes.{lanes_of, front_at, cart_in_front}
 use Rattle.judge_entering.proofs.Holding.{front_told}
+use Rattle.net_firing.specs.declared.Tokens.{Tokens}
 use Rattle.net_firing.specs.inner.Marking.{tokens, Takes, is_ahead_in, Gives, LineGives, CanFire, Marked}
 use Rattle.net_firing.proofs.CanFire.{counted, before_ahead}
 
@@ -48,24 +51,23 @@ module _ (X : Crossing) where
   abbrev pub LinesFired : ℕ → ℕ → ℕ → ℕ → Type 0
   LinesFired lines c p more = (d e : ℕ) → is_front X d e ≡ true → has more e ≡ ((has lines e && not (is_move_of e 0 c p)) || is_move_of d 0 c p)
 
-  module _ (only : OnlyVisitors X) (pairs : List ℕ) (lines : ℕ) (position : List ℕ) (on : Marked X pairs lines position) (c : ℕ) (l : c < 16)
-      (can : CanFire X pairs lines position c) where
+  module _ (only : OnlyVisitors X) (t : Tokens) (on : Marked X t) (c : ℕ) (l : c < 16) (can : CanFire X t c) where
     abbrev p : ℕ
-    p = pos position c
+    p = pos t.position c
 
     abbrev left : Marking
     left = fired_all X begins on.sequence
 
     can_left : Enabled X left c p
-    can_left = enabled_as X (tokens pairs lines position) left c p (λ q is. sym (on.holds q is)) can
+    can_left = enabled_as X (tokens t) left c p (λ q is. sym (on.holds q is)) can
 
     -- a place that loses a token has one, and one that gets a token has none
-    fired_token : (q : Place) → IsPlace X q → (old taken given : Bool) → tokens pairs lines position q ≡ one old → input X q c p ≡ one taken
-        → output X c p q ≡ one given → fired X (tokens pairs lines position) c p q ≡ one ((old && not taken) || given)
+    fired_token : (q : Place) → IsPlace X q → (old taken given : Bool) → tokens t q ≡ one old → input X q c p ≡ one taken
+        → output X c p q ≡ one given → fired X (tokens t) c p q ≡ one ((old && not taken) || given)
     fired_token q is old taken given was takes gives = rw (was, takes, gives) (one_token old taken given loses gets)
       where
         loses : taken ≡ true → old ≡ true
-        loses t = is_one old (rw (was, takes, t) at (can.tokens q is))
+        loses e = is_one old (rw (was, takes, e) at (can.tokens q is))
 
         none : one given ≡ 1 → one old ≡ 0
         none g = sym was ∙ sym (on.holds q is) ∙ fires_safe X only on.sequence on.fires c p can_left q is (omega (arith, gives, g))
@@ -73,32 +75,33 @@ module _ (X : Crossing) where
         gets : given ≡ true → old ≡ false
         gets g = is_none old (none (ap one g))
 
-    module _ (mid after : List ℕ) (more : ℕ) (taken : PairsTaken pairs c p mid) (given : PairsGiven mid c p after) (line_is : LinesFired lines c p more) where
-      stored : (q : Place) → IsPlace X q → fired X (tokens pairs lines position) c p q ≡ tokens after more (moved position c) q
-      stored (at e j) is = sym (standing_moved position c (rw on.position_16 l) e j)
-      stored (between d e j) is =
-          fired_token (between d e j) is (has (get_or pairs (8 * e + j) 0) d) (is_move_of e j c p) (is_move_of d (suc (step_in X d (zone X e j))) c p)
+    module _ (mid : List ℕ) (next : Tokens) (taken : PairsTaken t.pairs c p mid) (given : PairsGiven mid c p next.pairs)
+        (line_is : LinesFired t.lines c p next.lines) (is : next.position ≡ moved t.position c) where
+      stored : (q : Place) → IsPlace X q → fired X (tokens t) c p q ≡ tokens next q
+      stored (at e j) _ = rw is (sym (standing_moved t.position c (rw on.position_16 l) e j))
+      stored (between d e j) place =
+          fired_token (between d e j) place (has (get_or t.pairs (8 * e + j) 0) d) (is_move_of e j c p) (is_move_of d (suc (step_in X d (zone X e j))) c p)
           refl refl refl
-          ∙ ap one (sym (given d e j is ∙ ap (λ (b : Bool). b || is_move_of d (suc (step_in X d (zone X e j))) c p) (taken d e j is)))
-      stored (line d e) is =
-          fired_token (line d e) is (has lines e) (is_move_of e 0 c p) (is_move_of d 0 c p) refl refl refl ∙ ap one (sym (line_is d e is))
+          ∙ ap one (sym (given d e j place ∙ ap (λ (b : Bool). b || is_move_of d (suc (step_in X d (zone X e j))) c p) (taken d e j place)))
+      stored (line d e) place =
+          fired_token (line d e) place (has t.lines e) (is_move_of e 0 c p) (is_move_of d 0 c p) refl refl refl ∙ ap one (sym (line_is d e place))
 
-      within : (e : ℕ) → Change position c e → pos (moved position c) e ≤ moves_of (steps X e)
+      within : (e : ℕ) → Change t.position c e → pos (moved t.position c) e ≤ moves_of (steps X e)
       within e (inl same) = rw same (on.within e)
-      within e (inr (cart, is)) = rw cart (omega (arith, can.transition, moved_same position c (rw on.position_16 l)))
+      within e (inr (cart, to)) = rw cart (omega (arith, can.transition, moved_same t.position c (rw on.position_16 l)))
 
-      pub marked_fired : (next : List ℕ) → next ≡ moved position c → length after ≡ 128 → Marked X after more next
-      marked_fired next is sized = rw is (record {
+      pub marked_fired : length next.pairs ≡ 128 → Marked X next
+      marked_fired sized = record {
         sequence = on.sequence ++ ((c, p) ∷ []);
         fires = fires_then X begins on.sequence c p on.fires can_left;
-        holds = λ q is.
+        holds = λ q place.
             fired_then X begins on.sequence c p q
-            ∙ ap (λ (n : ℕ). n - input X q c p + output X c p q) (on.holds q is)
-            ∙ stored q is;
+            ∙ ap (λ (n : ℕ). n - input X q c p + output X c p q) (on.holds q place)
+            ∙ stored q place;
         pairs_128 = sized;
-        position_16 = moved_length position c ∙ on.position_16;
-        within = λ e. within e (moved_cases position c e);
-      })
+        position_16 = rw is (moved_length t.position c ∙ on.position_16);
+        within = λ e. rw is (within e (moved_cases t.position c e));
+      }
 
 -- ---- by a sheet's tables
 
@@ -204,10 +207,8 @@ module _ (sheet ahead : List ℕ) (sound : Sound (crossing_of sheet ahead) (give
         is : front_at lanes e ≡ suc d
         is = front_told sheet lanes are e cart ∙ front.is
 
-        next : (ltb e 16 && eqb (front_at lanes e) (c + 1)) ≡ is_move_of d 0 c p
-        next = rw (lt-ltb e 16 cart, is, eq-eqb 0 p (sym first), and-true (eqb d c))
-            (same_test _ _ (λ t. let same = (eqb_says (suc d) (c + 1)).0 t in (eqb_says d c).1 (omega arith))
-            (λ t. let same = (eqb_says d c).0 t in (eqb_says (suc d) (c + 1)).1 (omega arith)))
+        next : (ltb e 16 && option_eq eqb (cart_in_front (front_at lanes e)) (Some c)) ≡ is_move_of d 0 c p
+        next = rw (lt-ltb e 16 cart, is, eq-eqb 0 p (sym first)) (sym (and-true (eqb d c)))
 
     pub lines_later : 0 < p → more ≡ lines → LinesFired X lines c p more
     lines_later some same d e f =

@@ -12,13 +12,7 @@ fn comes_before(sheet: &Table, d: usize, c: usize) -> bool
     requires { (d < 16) × (c < 16) }
     ensures { result ≡ comes_before_in (arrival sheet.now) d c }
 {
-    let first = sheet_table::arrival(sheet, d);
-    let second = sheet_table::arrival(sheet, c);
-    if first == second {
-        d < c
-    } else {
-        first < second
-    }
+    (sheet_table::arrival(sheet, d), d) < (sheet_table::arrival(sheet, c), c)
 }
 
 // How many of the m carts come before cart c.
@@ -26,15 +20,7 @@ fn rank_of(sheet: &Table, m: usize, c: usize) -> u8
     requires { (m ≤ 16) × (c < 16) }
     ensures { result ≡ rank_in (arrival sheet.now) m c }
 {
-    let mut rank = 0u8;
-    let mut d = 0;
-    while d < m {
-        if comes_before(sheet, d, c) {
-            rank += 1;
-        }
-        d += 1;
-    }
-    rank
+    (0..m).filter(|d| comes_before(sheet, *d, c)).count() as u8
 }
 
 // The rank of each of the m carts.
@@ -43,10 +29,8 @@ pub fn ranks(sheet: &Table, m: usize) -> [u8; 16]
     ensures { Ranks (arrival sheet.now) m result }
 {
     let mut ranks = [0u8; 16];
-    let mut c = 0;
-    while c < m {
+    for c in 0..m {
         ranks[c] = rank_of(sheet, m, c);
-        c += 1;
     }
     ranks
 }

@@ -26,7 +26,7 @@ pub loop-others-smaller : goal.loop-others-smaller
 loop-others-smaller c = c.rest-others.ensures.smaller
 
 pub loop-others-preserved : goal.loop-others-preserved
-loop-others-preserved c = c.loop-others.invariant ∙ rw c.later-time.ensures
+loop-others-preserved c = c.loop-others.invariant ∙ rw c.max-time.ensures
     (latest_turn _ _ _ _ _ c.lowest-d.ensures.0 c.lowest-d.ensures.1 c.rest-others.ensures)
 
 pub returns : goal.returns

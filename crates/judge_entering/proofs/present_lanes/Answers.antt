@@ -1,14 +1,11 @@
-use Prim.Native.Nat.{ℕ}
-use mathlib.Core.Path.{ap, ◌∙◌}
+use mathlib.Core.Path.{◌≡◌, ◌∙◌}
 use native.Mathlib.Omega.{arith}
-use Rattle.words.specs.Lists.{entries}
-use Rattle.judge_entering.specs.inner.Lanes.{present_on}
 use Rattle.judge_entering.proofs.Sides.{present_start, present_turn, present_absent}
 use Rattle.judge_entering.proofs.present_lanes.Goals as goal
 use Rattle.judge_entering.proofs.present_lanes.Goals.{then-steps-gt0, else-steps-gt0}
 
 pub loop-c-init : goal.loop-c-init
-loop-c-init c = (omega arith, present_start _)
+loop-c-init c = present_start _
 
 pub offset_bounds-on-l : goal.offset_bounds-on-l
 offset_bounds-on-l c = omega (arith, c.lane-l.ensures, c.requires c.loop-c.c)
@@ -23,18 +20,15 @@ pub bounds-on-l-then-steps-gt0 : goal.bounds-on-l-then-steps-gt0
 bounds-on-l-then-steps-gt0 c = omega (arith, c.lane-l.ensures, c.requires c.loop-c.c)
 
 pub loop-c-preserved : goal.loop-c-preserved
-loop-c-preserved c = (
-  omega arith,
-  elim c.if-steps-gt0.branch [
-    | then-steps-gt0 w ↦
-        w.on-is
-        ∙ present_turn _ _ _ _ _ (omega (arith, w.lane-l.ensures, c.requires c.loop-c.c)) w.lane-l.ensures
-        (rw c.steps.ensures at w.if-steps-gt0.true) c.loop-c.invariant.1 w.with.ensures
-    | else-steps-gt0 w ↦
-        w.on-is ∙ c.loop-c.invariant.1 ∙ present_absent _ _ (omega (arith, c.steps.ensures, w.if-steps-gt0.false))
-  ],
-)
+loop-c-preserved c =
+    elim c.if-steps-gt0.branch [
+      | then-steps-gt0 w ↦
+          w.on-is
+          ∙ present_turn _ _ _ _ _ (omega (arith, w.lane-l.ensures, c.requires c.loop-c.c)) w.lane-l.ensures
+          (rw c.steps.ensures at w.if-steps-gt0.true) c.loop-c.invariant w.with.ensures
+      | else-steps-gt0 w ↦
+          w.on-is ∙ c.loop-c.invariant ∙ present_absent _ _ (omega (arith, c.steps.ensures, w.if-steps-gt0.false))
+    ]
 
 pub returns : goal.returns
-returns c = c.loop-c.invariant.1 ∙ ap (λ (n : ℕ). entries 16 0 (present_on c.args.sheet.now n))
-    (omega (arith, c.loop-c.invariant.0, c.loop-c-test.false))
+returns c = let all : c.loop-c.c ≡ 16 = omega arith in rw all at c.loop-c.invariant

@@ -1,12 +1,8 @@
 -- The loop keeps that the sets have the carts passed.
-use Prim.Native.Nat.{◌-◌, ◌≤◌}
 use mathlib.Core.Path.{◌≡◌}
 use Rattle.words.specs.Lists.{entries}
 use Rattle.judge_entering.specs.inner.Lanes.{present_on}
 use Rattle.judge_entering.proofs.present_lanes.Given as goal
 
 abbrev pub invariant-loop-c : goal.invariant-loop-c
-invariant-loop-c l = (l.c ≤ 16) × (l.on ≡ entries 16 0 (present_on l.sheet l.c))
-
-abbrev pub decreases-loop-c : goal.decreases-loop-c
-decreases-loop-c l = 16 - l.c
+invariant-loop-c l = (l.on ≡ entries 16 0 (present_on l.sheet l.c))

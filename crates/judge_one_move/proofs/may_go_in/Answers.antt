@@ -12,9 +12,9 @@ returns-then-lane_holds c = held_says _ _ _ _ c.requires.0 _ c.requires.1 c.requ
     (sym (c.lane_holds.ensures _ _ c.requires.2) ∙ c.if-lane_holds.true)
 
 pub may_enter-requires : goal.may_enter-requires
-may_enter-requires c = x_few _ _ _ _ c.requires.0 _ c.requires.1 c.requires.3 _ (rw c.wide.ensures.0)
+may_enter-requires c = x_few _ _ _ _ c.requires.0 _ c.requires.1 c.requires.3 _ (rw c.from.ensures)
 
 pub returns : goal.returns
-returns c = free_says _ _ _ _ c.requires.0 _ c.requires.1 c.requires.3 _ (rw c.wide.ensures.0)
+returns c = free_says _ _ _ _ c.requires.0 _ c.requires.1 c.requires.3 _ (rw c.from.ensures)
     (sym (c.lane_holds.ensures _ _ c.requires.2) ∙
     c.if-lane_holds.false) _ c.may_enter.ensures

@@ -7,12 +7,12 @@ may_go_in-requires c = (
   c.requires.0,
   c.requires.1,
   c.requires.2,
-  rw (c.wide-p.ensures.0, c.steps-k.ensures) at c.if-p-k.true,
+  rw (c.from-p.ensures, c.steps-k.ensures) at c.if-p-k.true,
 )
 
 pub returns-then-k-eq0 : goal.returns-then-k-eq0
 returns-then-k-eq0 c = absent_says _ _ _ _ c.requires.0 _ c.requires.1 (rw c.steps-k.ensures at c.if-k-eq0.true)
 
 pub returns : goal.returns
-returns c = rw (c.wide-p.ensures.0, c.steps-k.ensures) (past_says _ _ _ _ c.requires.0 _ c.requires.1
-    (rw (c.wide-p.ensures.0, c.steps-k.ensures) at c.if-p-k.false) (rw c.steps-k.ensures at c.if-k-eq0.false))
+returns c = rw (c.from-p.ensures, c.steps-k.ensures) (past_says _ _ _ _ c.requires.0 _ c.requires.1
+    (rw (c.from-p.ensures, c.steps-k.ensures) at c.if-p-k.false) (rw c.steps-k.ensures at c.if-k-eq0.false))

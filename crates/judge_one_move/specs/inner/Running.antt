@@ -1,5 +1,5 @@
 -- Carts under way: what the tables of a run hold, and what one move asks and makes of them.
-use Rattle.std.specs.Prelude.{ℕ, ◌+◌, ◌*◌, ◌-◌, ◌≤◌, ◌<◌, max, ◌≡◌, ◌↔◌, ◌⊎◌, true, List, length, get_or, set}
+use Rattle.std.specs.Prelude.{ℕ, ◌+◌, ◌*◌, ◌-◌, ◌≤◌, ◌<◌, max, ◌≡◌, ◌↔◌, ◌⊎◌, true, List, length, get_or, set, replicate}
 use Rattle.words.specs.Limits.{most_time}
 use Rattle.words.specs.inner.Limits.{latest_entering, latest_leaving}
 use Rattle.sets.specs.inner.Member.{has}
@@ -15,6 +15,18 @@ use Rattle.crossing.specs.inner.Sound.{Sound}
 use Rattle.judge_entering.specs.inner.Lanes.{member_before, front_time}
 use Rattle.judge_entering.specs.Times.{times_of}
 use Rattle.judge_entering.specs.inner.Times.{clear_of, latest, AtMost, Enterable}
+use Rattle.judge_one_move.specs.declared.Run.{Run}
+
+-- no move is made: all carts are at the start
+abbrev pub no_moves : Run
+no_moves = record {
+  at = replicate 16 0;
+  left = replicate 24 0;
+  leave = replicate 384 0;
+  order = replicate 144 0;
+  enter = replicate 128 0;
+  made = 0;
+}
 
 -- cart c joins zone z's set, and no set changes else
 abbrev pub Joins : List ℕ → List ℕ → ℕ → ℕ → Type 0

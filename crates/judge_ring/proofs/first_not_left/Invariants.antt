@@ -1,5 +1,5 @@
 -- The loop keeps what the rest of the list says.
-use Prim.Native.Nat.{◌+◌, ◌*◌, ◌-◌, ◌≤◌}
+use Prim.Native.Nat.{◌+◌, ◌*◌, ◌-◌}
 use mathlib.Core.Path.{◌≡◌}
 use mathlib.Core.Bool.{not}
 use lib.ListN.{get_or}
@@ -10,8 +10,5 @@ use Rattle.judge_ring.specs.inner.Tables.{first_not_left}
 use Rattle.judge_ring.proofs.first_not_left.Given as goal
 
 abbrev pub invariant-loop-k : goal.invariant-loop-k
-invariant-loop-k l = (l.k ≤ l.n) × (first_not_left l.count l.list l.left l.z ≡ first_of (λ d. not (has (get_or l.left l.z 0) d))
-    (entries (l.n - l.k) l.k λ j. get_or l.list (16 * l.z + j) 0))
-
-abbrev pub decreases-loop-k : goal.decreases-loop-k
-decreases-loop-k l = l.n - l.k
+invariant-loop-k l = first_not_left l.orders.count l.orders.list l.left l.z ≡ first_of (λ d. not (has (get_or l.left l.z 0) d))
+    (entries (l.n - l.k) l.k λ j. get_or l.orders.list (16 * l.z + j) 0)

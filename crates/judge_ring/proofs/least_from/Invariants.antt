@@ -5,8 +5,5 @@ use Rattle.moves.specs.Rings.{least_from}
 use Rattle.judge_ring.specs.inner.Tables.{by_table}
 use Rattle.judge_ring.proofs.least_from.Given as goal
 
-abbrev pub invariant-loop-k : goal.invariant-loop-k
-invariant-loop-k l = (l.k ≤ 16) × (least_from (by_table l.to) 16 l.c ≡ min l.least (least_from (by_table l.to) (16 - l.k) l.d)) × (l.least ≤ l.d) × (l.d < 16)
-
-abbrev pub decreases-loop-k : goal.decreases-loop-k
-decreases-loop-k l = 16 - l.k
+abbrev pub invariant-loop : goal.invariant-loop
+invariant-loop l = (least_from (by_table l.to) 16 l.c ≡ min l.least (least_from (by_table l.to) (16 - l.counter) l.d)) × (l.least ≤ l.d) × (l.d < 16)

@@ -1,46 +1,29 @@
 -- The lane says whether the cart in front comes before the list.
-use mathlib.Core.Path.{sym, ◌∙◌}
+use Prim.Native.Nat.{ℕ, zero, suc, ◌-◌, ◌<◌}
+use mathlib.Core.Path.{◌≡◌, ap, sym, ◌∙◌}
 use mathlib.Core.List.{[]}
 use native.Mathlib.Omega.{arith}
+use Rattle.std.proofs.Common.{Some, rules}
+use Rattle.judge_entering.specs.inner.Lanes.{front_at, cart_in_front}
 use Rattle.judge_entering.proofs.Holding.{front_told, front_16, held_front}
 use Rattle.judge_ring.proofs.points_to.Goals as goal
+
+in_front : (f : ℕ) → 0 < f → cart_in_front f ≡ Some (f - 1)
+in_front zero some = absurd (omega arith)
+in_front (suc d) some = ap Some {x = d} (omega arith)
 
 pub lane_holds-requires : goal.lane_holds-requires
 lane_holds-requires c = (c.requires.1, front_16 _ _ c.requires.0.lanes_are _ c.requires.1)
 
-pub overflow_sub-result : goal.overflow_sub-result
-overflow_sub-result c = omega (
-  arith,
-  c.front.ensures,
-  held_front _ _ c.requires.0.lanes_are _ c.requires.1 [] c.args.at.now
-      (sym (c.lane_holds.ensures _ [] c.requires.0.lanes_are) ∙ c.if-lane_holds.true),
-)
+pub unwrap-requires : goal.unwrap-requires
+unwrap-requires c = let held = sym (c.lane_holds.ensures _ [] c.requires.0.lanes_are) ∙ c.if-lane_holds.true in
+    rw (c.front.ensures, in_front _ (held_front _ _ c.requires.0.lanes_are _ c.requires.1 [] c.args.at.now held)) (search rules)
 
 pub returns-then-lane_holds : goal.returns-then-lane_holds
-returns-then-lane_holds c = (
-  rw (
-    sym (c.lane_holds.ensures _ [] c.requires.0.lanes_are) ∙ c.if-lane_holds.true,
-    c.front.ensures ∙ front_told _ _ c.requires.0.lanes_are _ c.requires.1,
-  ),
-  omega (arith, c.front.ensures, front_16 _ _ c.requires.0.lanes_are _ c.requires.1),
-)
-
-pub wanted_zone-requires : goal.wanted_zone-requires
-wanted_zone-requires c = (
-  c.requires.1,
-  c.requires.0.wanting.steps_most _ c.requires.1,
-  c.requires.0.wanting.zone_below _ c.requires.1,
-)
-
-pub first_not_left-requires : goal.first_not_left-requires
-first_not_left-requires c = let below = c.requires.0.wanting.zone_below _ c.requires.1 in
-    rw c.wanted_zone.ensures (below, c.requires.0.listable _ below)
-
-pub returns : goal.returns
-returns c = (
-  rw (
-    sym (c.lane_holds.ensures _ [] c.requires.0.lanes_are) ∙ c.if-lane_holds.false,
-    ← c.wanted_zone.ensures,
-  ) c.first_not_left.ensures.0,
-  c.first_not_left.ensures.1,
-)
+returns-then-lane_holds c =
+    let held = sym (c.lane_holds.ensures _ [] c.requires.0.lanes_are) ∙ c.if-lane_holds.true in
+    let front = in_front _ (held_front _ _ c.requires.0.lanes_are _ c.requires.1 [] c.args.at.now held) in
+    let same : c.unwrap.result ≡ front_at c.args.lanes.now c.args.c - 1 = cc in (
+      rw (held, ← front_told _ _ c.requires.0.lanes_are _ c.requires.1) same,
+      omega (arith, same, front_16 _ _ c.requires.0.lanes_are _ c.requires.1),
+    )

@@ -1,5 +1,5 @@
 -- Pointing as tables tell it: positions, who is in front on the lanes, zones' lists, and for each zone the set of the carts that have left it.
-use Rattle.std.specs.Prelude.{ℕ, ◌+◌, ◌*◌, ◌-◌, ◌≤◌, ◌<◌, ◌≡◌, not, List, [], get_or, ltb}
+use Rattle.std.specs.Prelude.{ℕ, ◌+◌, ◌*◌, ◌-◌, ◌≤◌, ◌<◌, ◌≡◌, not, List, [], get_or, ltb, Option, Some, None}
 use Rattle.words.specs.Lists.{pick, entries}
 use Rattle.sets.specs.inner.Member.{has}
 use Rattle.routes.specs.Lists.{first_of}
@@ -59,8 +59,7 @@ ByTable to = (c : ℕ) → by_table to c < 16
 abbrev pub NotOutIn : List ℕ → List ℕ → ℕ → Type 0
 NotOutIn steps at c = get_or at c 0 < moves_of (get_or steps c 0)
 
--- c is the lowest of 16 carts that is not out, or 16 where all are
-pub record StuckIn (steps at : List ℕ) (c : ℕ) : Type 0 where
-  pub most : c ≤ 16
-  pub lower_out : (d : ℕ) → d < c → ¬ (NotOutIn steps at d)
-  pub not_out : c < 16 → NotOutIn steps at c
+-- the lowest of 16 carts that is not out; none where all are
+abbrev pub StuckIn : List ℕ → List ℕ → Option ℕ → Type 0
+StuckIn steps at None = (d : ℕ) → d < 16 → ¬ (NotOutIn steps at d)
+StuckIn steps at (Some c) = (c < 16) × NotOutIn steps at c × ((d : ℕ) → d < c → ¬ (NotOutIn steps at d))

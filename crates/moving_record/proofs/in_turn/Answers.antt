@@ -1,32 +1,20 @@
-use mathlib.Core.Path.{refl, sym, ◌∙◌}
-use mathlib.Core.Bool.{false≢true}
-use native.Mathlib.Omega.{arith}
-use Rattle.moving_record.proofs.Each.{each_next}
+-- The test of each step that `all` went through said so.
+use Rattle.std.proofs.Common.{rules, ℕ, ◌+◌, ◌*◌, refl, arith, zero-add}
+use lib.ListN.{get_or}
+use Rattle.std.proofs.lemmas.List.FromFn.{length-range_with_len, get_or-range_with_len}
+use Rattle.std.proofs.lemmas.Iterator.{cases_from_all, YieldsList-from_range}
+use Rattle.std.proofs.iter.runs.Sources.{ranges}
+use Rattle.sets.specs.inner.Member.{Within}
+use Rattle.sheet_table.specs.inner.Parts as parts
 use Rattle.moving_record.proofs.in_turn.Goals as goal
 
-pub loop-j-init : goal.loop-j-init
-loop-j-init c = (omega arith, λ d h. absurd (omega arith))
-
-pub may_enter-requires : goal.may_enter-requires
-may_enter-requires c = (
-  omega (arith, c.requires.few, c.requires.cart, c.loop-j-test.true),
-  c.requires.known _ c.loop-j-test.true,
-)
-
-pub returns-then-not-may_enter : goal.returns-then-not-may_enter
-returns-then-not-may_enter c = (
-  λ e. absurd (false≢true e),
-  λ all. absurd (false≢true (sym c.if-not-may_enter.true ∙ c.may_enter.ensures.1 (all _ c.loop-j-test.true))),
-)
-
-pub overflow_add-j : goal.overflow_add-j
-overflow_add-j c = omega (arith, c.requires.few, c.loop-j-test.true)
-
-pub loop-j-preserved : goal.loop-j-preserved
-loop-j-preserved c = (
-  omega (arith, c.loop-j-test.true),
-  each_next _ _ c.loop-j.invariant.1 (c.may_enter.ensures.0 c.if-not-may_enter.false),
-)
-
 pub returns : goal.returns
-returns c = (λ _ d h. c.loop-j.invariant.1 d (omega (arith, h, c.loop-j-test.false)), λ _. refl)
+returns c = (
+  λ e j l.
+      let k : ℕ = c.args.k in
+      let P : ℕ → Type 0 = λ j. Within (get_or c.args.ahead.now (8 * c.args.c + j) 0)
+      (get_or c.args.left.now (get_or (parts.zone c.args.sheet.now) (8 * c.args.c + j) 0) 0) in
+      let each = cases_from_all _ _ _ P (λ _. Unit {0}) c.all.ensures.ran (YieldsList-from_range 0 k k refl (omega arith)) (λ x q d. search rules) (λ x q d. tt) in
+      rw (get_or-range_with_len 0 k j 0 l, zero-add) at ((rw e at each) j 0 (omega arith) (omega (arith, length-range_with_len 0 k))),
+  λ all. search (rules, ranges),
+)

@@ -1,6 +1,6 @@
 -- The test of a record over tables: by the set of the carts ahead of each step, the set of the carts that have left each zone,
 -- and who is next in front of each cart on its lane.
-use Rattle.std.specs.Prelude.{ℕ, ◌+◌, ◌-◌, ◌*◌, ◌≤◌, ◌<◌, min, ◌≡◌, true, false, List, length, get_or, replicate}
+use Rattle.std.specs.Prelude.{ℕ, ◌+◌, ◌-◌, ◌*◌, ◌≤◌, ◌<◌, min, ◌≡◌, List, length, get_or, Option, is_some, IfSome}
 use Rattle.words.specs.Lists.{entries}
 use Rattle.sets.specs.inner.Member.{Within}
 use Rattle.routes.specs.Crossing.{Crossing, steps, zone}
@@ -9,7 +9,6 @@ use Rattle.routes.specs.inner.Orders.{NamesOnce, OnlyVisitors}
 use Rattle.crossing.specs.inner.Tables.{fronts_by, crossing_by, FrontGone, LeftSet}
 use Rattle.moving_record.specs.Record.{is_reached}
 use Rattle.moving_record.specs.declared.Record.{Record}
-use Rattle.moving_record.specs.declared.Tested.{Tested}
 
 -- no cart stands past out
 abbrev pub NonePastOut : List ℕ → List ℕ → Type 0
@@ -42,9 +41,6 @@ FrontsKnown front = (c : ℕ) → c < 16 → front c ≤ 16
 abbrev pub AllInLine : (ℕ → ℕ) → List ℕ → Type 0
 AllInLine front at = (c : ℕ) → c < 16 → 0 < get_or at c 0 → FrontGone (front c) at
 
-abbrev pub not_reached : Tested
-not_reached = record { reached = false; left = replicate 24 0 }
-
 module _ (step_table zone_table lane_table ahead_table : List ℕ) where
   abbrev X : Crossing
   X = crossing_by step_table zone_table (fronts_by step_table zone_table lane_table) ahead_table
@@ -57,8 +53,7 @@ module _ (step_table zone_table lane_table ahead_table : List ℕ) where
     pub zone_below : (c j : ℕ) → j < steps X c → zone X c j < 24
     pub steps_most : (c : ℕ) → steps X c ≤ 8
 
--- whether a run reaches the record, and then for each zone the carts that have left it
-pub record TestedAs (X : Crossing) (lent : Record) (tested : Tested) : Type 0 where
-  pub reached_is : tested.reached ≡ is_reached (system X) lent
-  pub left_is : tested.reached ≡ true → (z : ℕ) → LeftSet X lent.position z (get_or tested.left z 0)
-  pub left_none : tested.reached ≡ false → tested.left ≡ replicate 24 0
+-- some exactly if a run reaches the record, and then for each zone the carts that have left it
+pub record TestedAs (X : Crossing) (lent : Record) (tested : Option (List ℕ)) : Type 0 where
+  pub reached_is : is_some tested ≡ is_reached (system X) lent
+  pub left_is : IfSome tested (λ left. (z : ℕ) → LeftSet X lent.position z (get_or left z 0))

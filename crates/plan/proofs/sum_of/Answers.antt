@@ -1,29 +1,28 @@
-use Prim.Native.Nat.{ℕ}
-use mathlib.Core.Path.{refl, ap, ◌∙◌}
+use Prim.Native.Nat.{ℕ, ◌<◌}
+use mathlib.Core.Path.{◌≡◌, refl, ap, ◌∙◌}
 use native.Mathlib.Omega.{arith}
 use native.Mathlib.Numerals.{add-one}
 use lib.ListN.{get_or}
+use lib.Seq.{get_or-take, length-take-le}
 use Rattle.plan.specs.Valid.{sum_below}
 use Rattle.plan.proofs.sum_of.Goals as goal
 
-pub loop-k-init : goal.loop-k-init
+pub loop-byte-init : goal.loop-byte-init
 unfolding sum_below
-loop-k-init c = (omega arith, refl, omega arith)
+loop-byte-init c = (refl, omega arith)
 
-pub overflow_cast-sum : goal.overflow_cast-sum
-overflow_cast-sum c = omega (arith, c.type_inv.bytes c.loop-k.k)
-
-pub overflow_add-sum : goal.overflow_add-sum
-overflow_add-sum c = omega (arith, c.type_inv.bytes c.loop-k.k)
-
-pub loop-k-preserved : goal.loop-k-preserved
+pub loop-byte-preserved : goal.loop-byte-preserved
 unfolding sum_below
-loop-k-preserved c = (
-  omega arith,
-  rw (add-one c.loop-k.k) (omega (arith, c.loop-k.invariant.1)),
-  omega
-      (arith, c.type_inv.bytes c.loop-k.k),
-)
+loop-byte-preserved c =
+    let below : c.loop-byte.byte-index < c.args.n = omega (arith, length-take-le _ _ c.requires.1) in
+    let byte = c.from-sum.ensures ∙ get_or-take c.args.n c.args.bytes.now c.loop-byte.byte-index 0 below in (
+      rw (add-one c.loop-byte.byte-index) (omega (arith, c.loop-byte.invariant.0, byte)),
+      omega (arith, c.loop-byte.invariant.1, byte, c.type_inv.bytes c.loop-byte.byte-index),
+    )
 
 pub returns : goal.returns
-returns c = (c.loop-k.invariant.1 ∙ ap (λ (m : ℕ). sum_below m (λ e. get_or c.args.bytes.now e 0)) (omega arith), omega arith)
+returns c =
+    let all : c.loop-byte.byte-index ≡ c.args.n = omega (arith, length-take-le _ _ c.requires.1) in (
+      c.loop-byte.invariant.0 ∙ ap (λ (m : ℕ). sum_below m (λ k. get_or c.args.bytes.now k 0)) all,
+      omega (arith, all, c.loop-byte.invariant.1),
+    )

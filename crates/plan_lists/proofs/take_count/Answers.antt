@@ -1,7 +1,5 @@
 -- Each way out rewrites with the count's field and test.
 use mathlib.Core.Path.{sym, ◌∙◌}
-use native.Mathlib.Omega.{arith}
-use lib.Count.{ones-le}
 use borrow.Author.Tests.{eq-eqb, ne_eqb}
 use Rattle.fields.specs.inner.Field.{taking}
 use Rattle.plan_lists.specs.inner.Scan.{count_taken}
@@ -9,38 +7,19 @@ use Rattle.plan_lists.proofs.take_count.Goals as goal
 
 pub returns-in_default : goal.returns-in_default
 unfolding count_taken taking
-returns-in_default c = rw (
-  c.refused_at.ensures,
-  ← c.outside-c.ensures,
-  sym c.one_byte.ensures ∙ c.in_default.is,
-)
+returns-in_default c = rw (c.refused_at.ensures, ← c.outside-c.ensures, sym c.one_byte.ensures ∙ c.in_default.is)
 
 pub returns-then-k-count : goal.returns-then-k-count
 unfolding count_taken taking
 returns-then-k-count c = rw (
   c.refused_at-then-k-count.ensures,
   ← c.outside-c.ensures,
-  sym c.one_byte.ensures ∙
-      c.in-Value.is,
+  sym c.one_byte.ensures ∙ c.in-Some.is,
   ← c.count.ensures,
   ne_eqb _ _ c.if-k-count.true,
   c.outside-c.ensures,
 )
 
-pub overflow_cast-result : goal.overflow_cast-result
-overflow_cast-result c = omega (
-  arith,
-  ones-le 16 _ c.ranges.who.fits,
-  c.count.ensures,
-  c.if-k-count.false,
-)
-
 pub returns : goal.returns
 unfolding count_taken taking
-returns c = rw (
-  ← c.outside-c.ensures,
-  sym c.one_byte.ensures ∙ c.in-Value.is,
-  ←
-      c.count.ensures,
-  eq-eqb _ _ c.if-k-count.false,
-)
+returns c = rw (← c.outside-c.ensures, sym c.one_byte.ensures ∙ c.in-Some.is, ← c.count.ensures, eq-eqb _ _ c.if-k-count.false)

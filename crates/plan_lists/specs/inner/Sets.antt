@@ -1,5 +1,5 @@
 -- The sets that the lists are held to: who visits each zone, who may be ahead of each cart, who is seen in a list.
-use Rattle.std.specs.Prelude.{ℕ, ◌+◌, ◌*◌, ◌^◌, ◌≤◌, ◌<◌, Bool, not, ◌&&◌, ◌||◌, List, get_or, leb, eqb}
+use Rattle.std.specs.Prelude.{ℕ, ◌+◌, ◌*◌, ◌^◌, ◌≤◌, ◌<◌, Bool, not, ◌&&◌, ◌||◌, List, get_or, leb, eqb, Option, Some, None}
 use Rattle.words.specs.Lists.{pick, any_below, entries}
 use Rattle.sets.specs.inner.Member.{has}
 use Rattle.sets.specs.Counting.{set_below}
@@ -37,7 +37,7 @@ may_lead lane = entries 16 0 λ i. all_but_from lane (i + 1) (get_or lane i 0)
 abbrev pub with_cart : ℕ → ℕ → ℕ
 with_cart seen i = set_below 16 λ d. has seen d || eqb d i
 
--- the first byte with a cart that has one ahead which may not be, 0 if there is none: the one known, else `at` where that is so here
-unfoldable pub first_late : ℕ → ℕ → ℕ → ℕ → ℕ
-first_late late at seen lead =
-    pick (eqb late 0) (pick (any_below (λ d. has seen d && not (has lead d)) 16) at 0) late
+-- the first byte with a cart that has one ahead which may not be: the one known, else `at` where that is so here
+unfoldable pub first_late : Option ℕ → ℕ → ℕ → ℕ → Option ℕ
+first_late (Some known) at seen lead = Some known
+first_late None at seen lead = pick (any_below (λ d. has seen d && not (has lead d)) 16) (Some at) None

@@ -1,10 +1,7 @@
--- Equal arrivals leave it to the numbers.
-use Rattle.planner_ranks.proofs.Ranking.{before_same, before_other}
+-- Pairs are compared as the rule says; written out, for a wrong order is then refused at values.
+use Rattle.std.proofs.Common.{arith}
+use Rattle.std.proofs.lemmas.Bool.Decides.{nat_tests}
 use Rattle.planner_ranks.proofs.comes_before.Goals as goal
 
-pub returns-then-first-second : goal.returns-then-first-second
-returns-then-first-second c = before_same _ _ _ (rw (c.arrival-first.ensures, c.arrival-second.ensures) at c.if-first-second.true)
-
-pub returns-else-first-second : goal.returns-else-first-second
-returns-else-first-second c = rw (c.arrival-first.ensures, c.arrival-second.ensures)
-    (before_other _ _ _ (rw (c.arrival-first.ensures, c.arrival-second.ensures) at c.if-first-second.false))
+pub returns : goal.returns
+returns c = grind (arith, nat_tests)

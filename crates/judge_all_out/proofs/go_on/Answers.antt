@@ -1,3 +1,4 @@
+-- The cart leaves each zone as it goes into the next, and the last as it comes out.
 use Rattle.judge_all_out.proofs.OneCart.{first_asked, going_in, going_over, zone_left_asked, x_asked, gone_held}
 use Rattle.judge_all_out.proofs.OneCart.{going_next, out_asked, gone_out}
 use Rattle.judge_all_out.proofs.go_on.Goals as goal

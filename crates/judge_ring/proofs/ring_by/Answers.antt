@@ -1,3 +1,4 @@
+-- The ring is written when its first cart comes again.
 use Rattle.judge_ring.proofs.SoFar.{so_far_start, so_far_next, so_far_end}
 use Rattle.judge_ring.proofs.ring_by.Goals as goal
 

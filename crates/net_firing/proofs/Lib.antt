@@ -1,4 +1,3 @@
-pub mod Tables
 pub mod CanFire
 pub mod Firing
 pub mod Rounds

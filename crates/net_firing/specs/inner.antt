@@ -1,1 +1,2 @@
+pub mod Net
 pub mod Marking

@@ -27,16 +27,29 @@ struct Tokens {
 
 // The net as tables: a sheet's, the set of carts ahead of each of its steps, and its lanes.
 #[derive(Drop)]
-struct Net<'a> {
-    sheet: &'a Table,
-    ahead: &'a [u16; 128],
-    lanes: Lanes,
-    ghost sound: { Sound (crossing_of sheet.now ahead.now) (given_of sheet.now) } by { sound_one _ _ },
-    ghost lanes_are: { lanes ≡ lanes_of sheet.now },
+pub struct Net<'a> {
+    pub sheet: &'a Table,
+    pub ahead: &'a [u16; 128],
+    pub lanes: Lanes,
+    pub ghost sound: { Sound (crossing_of sheet.now ahead.now) (given_of sheet.now) } by { sound_one _ _ },
+    pub ghost lanes_are: { lanes ≡ lanes_of sheet.now },
 }
 
-impl Net<'_> {
-    ghost use Rattle.net_firing.specs.inner.Marking.{crossing_in, Takes, is_ahead_in, Gives, LineGives, AllPast, CanFire, Marked, Asked};
+impl<'a> Net<'a> {
+    ghost use Rattle.net_firing.specs.inner.Net.{crossing_in};
+    ghost use Rattle.net_firing.specs.inner.Marking.{Takes, is_ahead_in, Gives, LineGives, AllPast, CanFire, Marked, Asked};
+
+    pub fn of(sheet: &'a Table, ahead: &'a [u16; 128]) -> Net<'a>
+        requires { Sound (crossing_of sheet.now ahead.now) (given_of sheet.now) }
+        ensures sheet { result.sheet.now ≡ sheet.now }
+        ensures ahead { result.ahead.now ≡ ahead.now }
+    {
+        Net {
+            sheet,
+            ahead,
+            lanes: lanes(sheet),
+        }
+    }
 
     // Whether the place of the stop line before cart c's transition from p has a token, where there is such a place.
     fn line_free(&self, lines: u16, c: usize, p: usize) -> bool
@@ -162,11 +175,7 @@ pub fn fire_all(sheet: &Table, ahead: &[u16; 128]) -> Fired
     requires { Sound (crossing_of sheet.now ahead.now) (given_of sheet.now) }
     ensures { FiredOut (crossing_of sheet.now ahead.now) (bit result.locked) result.position }
 {
-    let net = Net {
-        sheet,
-        ahead,
-        lanes: lanes(sheet),
-    };
+    let net = Net::of(sheet, ahead);
     let mut on = Tokens {
         pairs: [0; 128],
         lines: 0,

@@ -7,13 +7,7 @@ use Rattle.routes.specs.Crossing.{Crossing, steps}
 use Rattle.routes.specs.Moves.{moves_of}
 use Rattle.judge_entering.specs.inner.Lanes.{front_at, cart_in_front}
 use Rattle.petri.specs.Net.{Place, at, between, line, Marking, one, begins, IsPlace, Enabled, Fires, fired_all}
-use Rattle.crossing.specs.inner.Tables.{crossing_of}
-use Rattle.net_firing.specs.declared.Net.{Net}
 use Rattle.net_firing.specs.declared.Tokens.{Tokens}
-
--- the crossing that the net's tables stand for
-abbrev pub crossing_in : Net → Crossing
-crossing_in net = crossing_of net.sheet.now net.ahead.now
 
 -- the tokens that the tables have
 abbrev pub tokens : Tokens → Marking

@@ -56,7 +56,7 @@ module _ (sheet ahead : List ℕ) where
     here : InRange S at
     here = in_range X at left on
 
-    pub in_table : c < length at
+    in_table : c < length at
     in_table = omega (arith, here.sized, carts_16 (parts.steps sheet) (parts.zone sheet) (fronts_of sheet) ahead)
 
     -- whether it may enter the zone that it wants

@@ -13,40 +13,31 @@ use judge_entering::Lanes;
 use judge_one_move::{join, may_enter, may_go_in};
 use judge_running::present;
 use sets::carts;
-use sheet_table::{Table, wide};
+use sheet_table::Table;
 
 // Cart c, which may enter the zone that it wants, moves on as far as it may; answers where it stands then.
 fn go_on(sheet: &Table, ahead: &[u16; 128], at: &[u8; 16], left: &mut [u16; 24], c: usize) -> u8
     requires { CanGoOn (crossing_of sheet.now ahead.now) at.now left.old c }
     ensures { GoneOn (crossing_of sheet.now ahead.now) at.now (set at.now c result) left.new c }
 {
-    let from = wide(at[c]);
+    let from = at[c] as usize;
     // From the lane no zone is left.
     if 0 < from {
         join(left, sheet_table::zone(sheet, 8 * c + from - 1), c);
     }
     let k = sheet_table::steps(sheet, c);
-    let mut p = from + 1;
-    while p < k {
+    for p in from + 1..k {
         let x = 8 * c + p;
         if !may_enter(sheet, ahead, left, x) {
             return p as u8;
         }
         join(left, sheet_table::zone(sheet, x - 1), c);
-        p += 1;
     }
     join(left, sheet_table::zone(sheet, 8 * c + k - 1), c);
     (k + 1) as u8
 }
 
-// Which carts are not out after a turn of the carts, and whether any has moved.
-#[derive(Clone, Copy)]
-struct Turn {
-    inside: u16,
-    moved: bool,
-}
-
-// Every cart that is not out moves on in turn as far as it may.
+// Every cart that is not out moves on in turn as far as it may; answers which are not out then, or none where no cart has moved.
 fn turn_of(
     sheet: &Table,
     lanes: &Lanes,
@@ -54,10 +45,10 @@ fn turn_of(
     at: &mut [u8; 16],
     left: &mut [u16; 24],
     inside: u16,
-) -> Turn
+) -> Option<u16>
     requires { HaveMoved (crossing_of sheet.now ahead.now) at.old left.old
         × InsideSet (crossing_of sheet.now ahead.now) at.old inside × (lanes.now ≡ lanes_of sheet.now) }
-    ensures { Turned (crossing_of sheet.now ahead.now) at.old at.new left.new result }
+    ensures { Turned (crossing_of sheet.now ahead.now) at.old at.new left.new inside result }
 {
     let mut turn = inside;
     let mut still = inside;
@@ -67,18 +58,14 @@ fn turn_of(
         turn = carts::rest(turn);
         // A cart that is not out wants a zone: out of its last one it has gone at once.
         if may_go_in(sheet, lanes, ahead, at, left, c) {
-            let to = go_on(sheet, ahead, at, left, c);
-            at[c] = to;
+            at[c] = go_on(sheet, ahead, at, left, c);
             moved = true;
-            if sheet_table::steps(sheet, c) < wide(to) {
+            if sheet_table::steps(sheet, c) < at[c] as usize {
                 still = carts::without(still, c);
             }
         }
     }
-    Turn {
-        inside: still,
-        moved,
-    }
+    moved.then_some(still)
 }
 
 // Whether all carts come out when permitted moves are made until none is left; no times are worked out.
@@ -89,11 +76,8 @@ pub fn all_out(sheet: &Table, lanes: &Lanes, ahead: &[u16; 128]) -> bool
     let mut at = [0u8; 16];
     let mut left = [0u16; 24];
     let mut inside = present(sheet);
-    let mut moved = true;
-    while moved {
-        let turn = turn_of(sheet, lanes, ahead, &mut at, &mut left, inside);
-        inside = turn.inside;
-        moved = turn.moved;
+    while let Some(still) = turn_of(sheet, lanes, ahead, &mut at, &mut left, inside) {
+        inside = still;
     }
     inside == 0
 }

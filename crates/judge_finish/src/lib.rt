@@ -6,7 +6,6 @@ ghost use Rattle.times.specs.Times.{largest};
 ghost use Rattle.sheet_table.specs.inner.Parts.{steps, passing};
 ghost use Rattle.judge_finish.specs.inner.Finish.{Leavable, last_leaving};
 
-use judge_entering::later;
 use sheet_table::Table;
 
 // When cart c leaves its last zone; 0 for an absent cart.
@@ -28,10 +27,8 @@ pub fn finish_of(sheet: &Table, enter: &[u32; 128]) -> u32
     ensures { result ≡ largest (last_leaving (steps sheet.now) (passing sheet.now) enter.now) 16 }
 {
     let mut time = 0;
-    let mut c = 0;
-    while c < 16 {
-        time = later(last_leaving(sheet, enter, c), time);
-        c += 1;
+    for c in 0..16 {
+        time = last_leaving(sheet, enter, c).max(time);
     }
     time
 }

@@ -17,9 +17,21 @@ use Rattle.routes.specs.Moves.{system}
 use Rattle.routes.proofs.Moves.{moves_most, carts_are, out_are}
 use Rattle.times.specs.Times.{Given}
 use Rattle.crossing.specs.inner.Sound.{Sound}
+use Rattle.judge_one_move.specs.declared.Run.{Run}
 use Rattle.judge_one_move.specs.inner.Running.{Running}
 use Rattle.judge_running.specs.inner.Rounds.{Underway}
 use Rattle.judge_one_move.proofs.Moving.{in_range}
+
+-- after one move of cart c more, which has made these of the tables
+abbrev pub next_run : Run → ℕ → List ℕ → List ℕ → List ℕ → Run
+next_run run c left leave enter = record {
+  at = moved run.at c;
+  left = left;
+  leave = leave;
+  enter = enter;
+  order = set run.order run.made c;
+  made = run.made + 1;
+}
 
 module _ (X : Crossing) (G : Given) where
   abbrev S : System
@@ -39,29 +51,30 @@ module _ (X : Crossing) (G : Given) where
 
   -- ---- one move more
 
-  module _ (at left leave enter order : List ℕ) (made : ℕ) (on : Underway X G at left leave enter order made) where
-    pub here : InRange S at
-    here = in_range X G at left leave enter on.running
+  module _ (run : Run) (on : Underway X G run) where
+    pub here : InRange S run.at
+    here = in_range X G run.at run.left run.leave run.enter on.running
 
-    pub underway_few : made ≤ 144
-    underway_few = omega (arith, on.counted, sum_few on.running.sound at here)
+    pub underway_few : run.made ≤ 144
+    underway_few = omega (arith, on.counted, sum_few on.running.sound run.at here)
 
-    module _ (c : ℕ) (m : Permitted S at c) where
+    module _ (c : ℕ) (m : Permitted S run.at c) where
       -- a move that is left has its place in the table
-      pub underway_room : made < 144
+      pub underway_room : run.made < 144
       underway_room =
-          omega (arith, on.counted, permitted_sum S at c here m, sum_few on.running.sound (moved at c) (moved_in_range S at c here m))
+          omega (arith, on.counted, permitted_sum S run.at c here m, sum_few on.running.sound (moved run.at c) (moved_in_range S run.at c here m))
 
-      stored_run : take (made + 1) (set order made c) ≡ take made order ++ (c ∷ [])
-      stored_run = rw (add-one made) (take-suc-set order made c (omega (arith, on.order_144, underway_room)))
+      stored_run : take (run.made + 1) (set run.order run.made c) ≡ take run.made run.order ++ (c ∷ [])
+      stored_run = rw (add-one run.made) (take-suc-set run.order run.made c (omega (arith, on.order_144, underway_room)))
 
-      pub underway_turn : (left' leave' enter' : List ℕ) → Running X G (moved at c) left' leave' enter'
-          → Underway X G (moved at c) left' leave' enter' (set order made c) (made + 1)
-      underway_turn left' leave' enter' run = record {
-        running = run;
-        counted = omega (arith, on.counted, permitted_sum S at c here m);
-        order_144 = length-set order made c ∙ on.order_144;
-        is_run = rw stored_run (run_append S (start S) (take made order) (c ∷ []) on.is_run (rw on.run_ends (m, tt)));
+      pub underway_turn : (left leave enter : List ℕ) → Running X G (moved run.at c) left leave enter → Underway X G (next_run run c left leave enter)
+      underway_turn left leave enter more = record {
+        running = more;
+        counted = omega (arith, on.counted, permitted_sum S run.at c here m);
+        order_144 = length-set run.order run.made c ∙ on.order_144;
+        is_run = rw stored_run (run_append S (start S) (take run.made run.order) (c ∷ []) on.is_run (rw on.run_ends (m, tt)));
         run_ends =
-            ap (after (start S)) stored_run ∙ after_append (start S) (take made order) (c ∷ []) ∙ ap (λ (s : List ℕ). moved s c) on.run_ends;
+            ap (after (start S)) stored_run
+            ∙ after_append (start S) (take run.made run.order) (c ∷ [])
+            ∙ ap (λ (s : List ℕ). moved s c) on.run_ends;
       }

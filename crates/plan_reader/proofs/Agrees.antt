@@ -7,9 +7,10 @@ use native.Mathlib.Omega.{arith}
 use native.Mathlib.Numerals.{add-one}
 use native.Mathlib.Decide.{dec_lt}
 use lib.Dec.{eqb}
+use Rattle.std.specs.Prelude.{Option, Some, None, Result, Err}
 use lib.ListN.{length, get_or}
 use borrow.Author.Tests.{eqb-true, not-true}
-use Rattle.words.specs.Lists.{pick, each, table}
+use Rattle.words.specs.Lists.{each, table}
 use Rattle.words.specs.Checks.{Check, check, first_failing}
 use Rattle.words.specs.declared.Outcome.{Outcome}
 use Rattle.words.proofs.Filling.{table_none, table_next}
@@ -17,43 +18,40 @@ use Rattle.words.proofs.Tests.{and_both}
 use Rattle.words.proofs.Rows.{rows_next, front_next}
 use Rattle.fields.specs.Field.{field_checks}
 use Rattle.fields.specs.Field.{outside}
+use Rattle.fields.specs.declared.Cursor.{Cursor}
 use Rattle.fields.proofs.TakingLaws.{taking_checks, pick_checks}
 use Rattle.sets.specs.inner.Member.{has}
 use Rattle.sheet.specs.Valid.{Valid}
 use Rattle.sheet.specs.declared.Sheet.{Sheet}
 use Rattle.opening.specs.inner.Opening.{opening_by, on_opening}
-use Rattle.opening.specs.declared.Opening.{Opening}
-use Rattle.opening.specs.declared.Opening.TheVariants.{Refused as NoOpening}
 use Rattle.opening.proofs.OpeningLaws.{opening_of}
 use Rattle.plan.specs.Layout.{count_at, count_of, cart_at, cart_of}
 use Rattle.plan.specs.Lists.{visits, visitors}
 use Rattle.plan.specs.Checks.{is_listed, cart_checks, list_checks, lane_checks, plan_checks}
-use Rattle.plan.specs.Reading.{plan_refused, plan_done}
+use Rattle.plan.specs.Reading.{plan_done}
 use Rattle.plan.specs.declared.Orders.{Orders}
 use Rattle.plan.specs.declared.PlanRead.{PlanRead}
 use Rattle.plan.proofs.Visitors.{visitors_most}
 use Rattle.plan_lists.specs.inner.Sets.{who_visits, may_lead, with_cart, first_late}
-use Rattle.plan_lists.specs.inner.Scan.{Lists, count_taken, cart_taken, no_lists, put_count, put_cart, Scanned, on_taken, carts_from, lists_from}
-use Rattle.plan_lists.specs.declared.Taken.{Taken}
-use Rattle.plan_lists.specs.declared.Taken.TheVariants.{Got, Refused}
-use Rattle.plan_reader.specs.inner.Scan.{Done, Refuses, plan_of, orders_of, finish, on_scanned, from_lists, scan, sheet_scan}
+use Rattle.plan_lists.specs.inner.Scan.{Lists, Taken, got, count_taken, cart_taken, no_lists, put_count, put_cart, Scanned, on_taken, carts_from, lists_from}
+use Rattle.plan_reader.specs.inner.Scan.{unless_late, plan_of, orders_of, finish, on_scanned, from_lists, scan, sheet_scan}
 use Rattle.plan_reader.proofs.Listed.{seen, seen_none, seen_has, seen_more, who, who_ones, who_has, visits_below, lead, late_is}
 use Rattle.plan_reader.proofs.ListTables.{before_rule, listed, before, listed_none, before_none, listed_put, before_put}
-use Rattle.plan_reader.proofs.Late.{first, LateIs, late_none, next_late, late_entry, late_zone}
+use Rattle.plan_reader.proofs.Late.{first, told, LateIs, late_none, next_late, late_entry, late_zone}
 
 module _ (sheet : Sheet) (valid : Valid sheet) (p : List ℕ) where
   -- the lists when the counts of h zones, the lists of the zones before z and e entries of zone z's list are read
-  abbrev so_far : ℕ → ℕ → ℕ → ℕ → Lists
+  abbrev so_far : ℕ → ℕ → ℕ → Option ℕ → Lists
   so_far h z e late = record { count = table 24 h (count_of p); list = listed p z e; before = before p z e; late = late }
 
   -- the answer where all passes
   abbrev pub answer : PlanRead
-  answer = plan_done sheet (orders_of sheet.steps sheet.zone (so_far sheet.zones sheet.zones 0 0))
+  answer = plan_done sheet (orders_of sheet.steps sheet.zone (so_far sheet.zones sheet.zones 0 None))
 
   abbrev table_answer : List Check → PlanRead
   table_answer = first answer sheet p
 
-  abbrev Late : ℕ → ℕ → ℕ → Type 0
+  abbrev Late : ℕ → ℕ → Option ℕ → Type 0
   Late = LateIs answer sheet p
 
   abbrev whole : Scanned → PlanRead
@@ -87,21 +85,22 @@ module _ (sheet : Sheet) (valid : Valid sheet) (p : List ℕ) where
   unfolding cart_checks field_checks
   entry_checks z e l = rw (free_is z e l)
 
-  late_next : (z e late : ℕ) → ((k : ℕ) → k < e → cart_of p z k < 16) → cart_of p z e < 16
+  late_next : (z e : ℕ) (late : Option ℕ) → ((k : ℕ) → k < e → cart_of p z k < 16) → cart_of p z e < 16
       → first_late late (cart_at p z e) (seen p z e) (lead sheet (cart_of p z e)) ≡ next_late answer sheet p z e late
   unfolding first_late
-  late_next z e late few l = rw (late_is sheet p z e few l)
+  late_next z e (Some known) few l = refl
+  late_next z e None few l = rw (late_is sheet p z e few l)
 
-  carts_agree : (z : ℕ) → z < 24 → count_of p z ≤ 16 → (n e late : ℕ) → e + n ≡ count_of p z → Late z e late
+  carts_agree : (z : ℕ) → z < 24 → count_of p z ≤ 16 → (n e : ℕ) (late : Option ℕ) → e + n ≡ count_of p z → Late z e late
       → ((k : ℕ) → k < e → cart_of p z k < 16) → (go : Lists → ℕ → Scanned) (later : List Check)
-      → ((end : ℕ) → Late z (count_of p z) end → whole (go (so_far (z + 1) z (count_of p z) end) (cart_at p z (count_of p z))) ≡ table_answer later)
+      → ((end : Option ℕ) → Late z (count_of p z) end → whole (go (so_far (z + 1) z (count_of p z) end) (cart_at p z (count_of p z))) ≡ table_answer later)
       → whole (carts_from p (who sheet z) leads z n e (seen p z e) (so_far (z + 1) z e late) (cart_at p z e) go)
       ≡ table_answer (each n e (cart_checks sheet p z) ++ later)
   unfolding carts_from cart_taken each
   carts_agree z l m zero e late q h few go later k = let end : e ≡ count_of p z = omega arith in rw end (k late (rw end at h))
   carts_agree z l m (suc n) e late q h few go later k =
       rw (append_assoc, ← entry_checks z e l)
-      (taking_checks then Refused answer 15 p 1 (outside (cart_at p z e)) 19 (is_free z e) Got _ λ _ t.
+      (taking_checks then Err answer 15 p 1 (outside (cart_at p z e)) 19 (is_free z e) got _ λ _ t.
       let both : (visits sheet (cart_of p z e) z ≡ true) × (not (is_listed p z e (cart_of p z e)) ≡ true) = and_both _ _ (sym (free_is z e l) ∙ t) in
       let below : cart_of p z e < 16 = visits_below sheet valid z (cart_of p z e) both.0 in
       rw (
@@ -126,21 +125,20 @@ module _ (sheet : Sheet) (valid : Valid sheet) (p : List ℕ) where
   abbrev last : List Check
   last = check 20 (count_at p sheet.zones) (eqb (count_at p sheet.zones) (length p)) ∷ each sheet.zones 0 (lane_checks sheet p)
 
-  finish_agrees : (late : ℕ) → Late sheet.zones 0 late
+  finish_agrees : (late : Option ℕ) → Late sheet.zones 0 late
       → plan_of sheet (finish p sheet.steps sheet.zone (so_far sheet.zones sheet.zones 0 late) (count_at p sheet.zones))
       ≡ table_answer last
   unfolding finish each first_failing
   finish_agrees late h =
-      pick_checks (plan_of sheet) Refuses answer 20 (outside (count_at p sheet.zones)) (eqb (count_at p sheet.zones) (length p)) _
+      pick_checks (plan_of sheet) Err answer 20 (outside (count_at p sheet.zones)) (eqb (count_at p sheet.zones) (length p)) _
       (each sheet.zones 0 (lane_checks sheet p))
-      (told (eqb late 0) _ _ ∙ sym (h.says []) ∙ ap table_answer (append-nil (each sheet.zones 0 (lane_checks sheet p))))
+      (late_told late _ ∙ sym (h.says []) ∙ ap table_answer (append-nil (each sheet.zones 0 (lane_checks sheet p))))
     where
-      told : (b : Bool) (orders : Orders) (outcome : Outcome) → plan_of sheet (pick b (Done orders) (Refuses outcome)) ≡ pick b
-          (plan_done sheet orders) (plan_refused outcome)
-      told true orders outcome = refl
-      told false orders outcome = refl
+      late_told : (known : Option ℕ) (orders : Orders) → plan_of sheet (unless_late known orders) ≡ told answer sheet p known (plan_done sheet orders)
+      late_told (Some place) orders = refl
+      late_told None orders = refl
 
-  lists_agree : (n z late : ℕ) → z + n ≡ sheet.zones → Late z 0 late
+  lists_agree : (n z : ℕ) (late : Option ℕ) → z + n ≡ sheet.zones → Late z 0 late
       → whole (lists_from p visitors_of leads n z (so_far z z 0 late) (count_at p z)) ≡ table_answer (each n z (list_checks sheet p) ++ last)
   unfolding lists_from count_taken each list_checks
   lists_agree zero z late q h = let end : z ≡ sheet.zones = omega arith in rw end (finish_agrees late (rw end at h))
@@ -149,7 +147,7 @@ module _ (sheet : Sheet) (valid : Valid sheet) (p : List ℕ) where
       let start : count_at p z + 1 ≡ cart_at p z 0 = omega arith in
       simp append_assoc
       (rw (who_ones sheet z l)
-      (taking_checks then Refused answer 15 p 1 (outside (count_at p z)) 19 (λ k. eqb k (visitors sheet z)) Got _ λ _ t.
+      (taking_checks then Err answer 15 p 1 (outside (count_at p z)) 19 (λ k. eqb k (visitors sheet z)) got _ λ _ t.
       let few : count_of p z ≤ 16 = omega (arith, eqb-true (count_of p z) (visitors sheet z) t, visitors_most sheet z) in
       rw (table_next 24 (count_of p) z (count_of p z) _ l refl refl, start)
       (ap (λ (x : ℕ). whole (carts_from p (who sheet z) leads z (count_of p z) 0 x (so_far (z + 1) z 0 late) (cart_at p z 0)
@@ -162,7 +160,7 @@ module _ (sheet : Sheet) (valid : Valid sheet) (p : List ℕ) where
       then r =
           whole (on_taken r λ k c. carts_from p (who sheet z) leads z k 0 0 (put_count (so_far z z 0 late) z k) c (lists_from p visitors_of leads n (z + 1)))
 
-      next : (end : ℕ)
+      next : (end : Option ℕ)
           → whole (lists_from p visitors_of leads n (z + 1) (so_far (z + 1) (z + 1) 0 end) (count_at p (z + 1))) ≡ table_answer
           (each n (z + 1) (list_checks sheet p) ++ last)
           → whole (lists_from p visitors_of leads n (z + 1) (so_far (z + 1) z (count_of p z) end) (cart_at p z (count_of p z))) ≡
@@ -174,7 +172,7 @@ module _ (sheet : Sheet) (valid : Valid sheet) (p : List ℕ) where
             (count_of p z) refl,
       ) g
 
-  nothing_yet : no_lists ≡ so_far 0 0 0 0
+  nothing_yet : no_lists ≡ so_far 0 0 0 None
   nothing_yet = rw (← table_none 24 (count_of p), ← listed_none p, ← before_none p)
 
   pub scan_agrees : plan_of sheet (sheet_scan p sheet) ≡ table_answer (plan_checks sheet p)
@@ -182,11 +180,11 @@ module _ (sheet : Sheet) (valid : Valid sheet) (p : List ℕ) where
   scan_agrees =
       ap then (opening_of p 15 sheet.zones)
       ∙ simp append_assoc
-      (taking_checks then NoOpening answer 15 p 1 (outside 0) 16 _ _ _ λ _ _.
-      taking_checks then NoOpening answer 15 p 2 (outside 1) 17 _ _ _ λ _ _.
-      taking_checks then NoOpening answer 15 p 1 (outside 3) 18 _ _ _ λ _ _.
+      (taking_checks then Err answer 15 p 1 (outside 0) 16 _ _ _ λ _ _.
+      taking_checks then Err answer 15 p 2 (outside 1) 17 _ _ _ λ _ _.
+      taking_checks then Err answer 15 p 1 (outside 3) 18 _ _ _ λ _ _.
       ap (λ (l : Lists). whole (lists_from p visitors_of leads sheet.zones 0 l 4)) nothing_yet
-      ∙ lists_agree sheet.zones 0 0 (omega arith) (late_none answer sheet p))
+      ∙ lists_agree sheet.zones 0 None (omega arith) (late_none answer sheet p))
     where
-      then : Opening → PlanRead
-      then r = plan_of sheet (on_opening Refuses r λ n c. from_lists p sheet.zones sheet.steps sheet.zone sheet.lane c.at)
+      then : Result (ℕ × Cursor) Outcome → PlanRead
+      then r = plan_of sheet (on_opening Err r λ n c. from_lists p sheet.zones sheet.steps sheet.zone sheet.lane c.at)

@@ -2,8 +2,9 @@
 use Prim.Native.Nat.{ℕ, ◌+◌, ◌*◌, ◌/◌, ◌%◌, ◌<◌}
 use mathlib.Core.Path.{◌≡◌, refl, sym, ◌∙◌}
 use mathlib.Core.Logic.{◌↔◌}
-use mathlib.Core.Bool.{true, false}
+use mathlib.Core.Bool.{true}
 use mathlib.Core.Option.{none, some}
+use Rattle.std.specs.Prelude.{Option, Some, None}
 use mathlib.Core.List.{List}
 use native.Mathlib.Decide.{dec_lt}
 use native.Mathlib.Omega.{arith}
@@ -84,23 +85,22 @@ module _ (U : Unplanned) (low high : ℕ) (decided : List Order) where
     group_candidates : (o : Order) → CandidateBelow T 128 o ↔ IsCandidate U low high decided o
     group_candidates o = (on o, back o)
 
-    module _ (r : Choice) (R : ChosenBelow T 128 r) where
-      among : Chosen T (IsCandidate U low high decided) r
-      among = chosen_as T group_candidates r R
+    among : (r : Option Choice) → ChosenBelow T 128 r → Chosen T (IsCandidate U low high decided) r
+    among = chosen_as T group_candidates
 
-      -- by any times that the tables hold
-      module _ (t spare : ℕ → ℕ → ℕ) (same : SameAtSteps U.routes t (times_of T.enter))
-          (same-spare : SameAtSteps U.routes spare (times_of T.spare)) where
-        by_tables : largest_cost U t spare (candidates U low high decided) ≡ largest_cost U (times_of T.enter) (times_of T.spare)
-            (candidates U low high decided)
-        by_tables = largest_same U _ _ _ _ same same-spare (candidates U low high decided) (λ o m. visited o ((among_candidates U low high decided o).0 m))
+    -- by any times that the tables hold
+    module _ (t spare : ℕ → ℕ → ℕ) (same : SameAtSteps U.routes t (times_of T.enter))
+        (same-spare : SameAtSteps U.routes spare (times_of T.spare)) where
+      by_tables : largest_cost U t spare (candidates U low high decided) ≡ largest_cost U (times_of T.enter) (times_of T.spare)
+          (candidates U low high decided)
+      by_tables = largest_same U _ _ _ _ same same-spare (candidates U low high decided) (λ o m. visited o ((among_candidates U low high decided o).0 m))
 
-        pub choice_none : r.found ≡ false → largest_cost U t spare (candidates U low high decided) ≡ none
-        choice_none f = by_tables ∙ (largest_none U _ _ (candidates U low high decided)).1
-            (λ o m. among.none_found f o ((among_candidates U low high decided o).0 m))
+      pub choice_none : ChosenBelow T 128 None → largest_cost U t spare (candidates U low high decided) ≡ none
+      choice_none R = by_tables ∙ (largest_none U _ _ (candidates U low high decided)).1
+          (λ o m. among None R o ((among_candidates U low high decided o).0 m))
 
-        pub choice_some : r.found ≡ true → largest_cost U t spare (candidates U low high decided) ≡ some (chosen T r)
-        choice_some f =
-            by_tables
-            ∙ largest_told U _ _ (candidates U low high decided) (among_candidates U low high decided) (λ o u. (u.first_below, u.second_below))
-            (chosen T r) (among.largest f U group_costable)
+      pub choice_some : (r : Choice) → ChosenBelow T 128 (Some r) → largest_cost U t spare (candidates U low high decided) ≡ some (chosen T r)
+      choice_some r R =
+          by_tables
+          ∙ largest_told U _ _ (candidates U low high decided) (among_candidates U low high decided) (λ o u. (u.first_below, u.second_below))
+          (chosen T r) ((among (Some r) R).largest U group_costable)

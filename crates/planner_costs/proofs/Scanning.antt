@@ -6,12 +6,12 @@ use mathlib.Core.Bool.{true, false, and-true, and-false, not-eq-not}
 use native.Mathlib.Decide.{ℕ_discrete}
 use native.Mathlib.Omega.{arith}
 use lib.ListN.{get_or}
-use lib.IntN.{ℤ, negsuc}
+use lib.IntN.{ℤ}
+use Rattle.std.specs.Prelude.{Option, Some, None}
 use borrow.Author.Tests.{eq-eqb, ne_eqb}
 use mir.Syntax.{w32}
-use mir.Val.{SFits}
+use mir.Val.{to_z, of_z, SFits}
 use mir.ValLaws.{to_z-of_z}
-use Rattle.words.specs.inner.Limits.{most_taken_off}
 use Rattle.words.proofs.Tests.{and_both}
 use Rattle.sets.specs.inner.Member.{has, Within, Lowest, Rest}
 use Rattle.sets.proofs.Laws.{has_none}
@@ -20,20 +20,16 @@ use Rattle.planner_costs.specs.inner.Tables.{Tables, CostIs, order_at, Candidate
 use Rattle.planner_costs.specs.inner.Choices.{is_taken_at, Chosen}
 use Rattle.planner_costs.specs.declared.Choice.{Choice}
 use Rattle.planner_costs.proofs.Strict.{clash}
-use Rattle.planner_costs.proofs.Compared.{bits}
 use Rattle.planner_costs.proofs.Told.{clear_at, latest_at}
 use Rattle.planner_costs.proofs.Choosing.{chosen_as, chosen_over, chosen_stays}
 
+-- a number stored by its bits
+abbrev bits : ℤ → ℤ
+bits v = to_z w32 (of_z w32 v)
+
 module _ (T : Tables) where
-  pub chosen_none : Chosen T (CandidateBelow T 0) (record { found = false; cost = negsuc most_taken_off; step = 0; first = 0 })
-  chosen_none = record {
-    step_below = omega arith;
-    first_below = omega arith;
-    none_found = λ _ o c. omega (arith, c.step_below);
-    below_all = λ _. refl;
-    still_undecided = λ f. clash f refl;
-    largest = λ f. clash f refl;
-  }
+  pub chosen_none : Chosen T (CandidateBelow T 0) None
+  chosen_none o c = omega (arith, c.step_below)
 
   module _ (x : ℕ) where
     abbrev here : ℕ
@@ -46,20 +42,20 @@ module _ (T : Tables) where
     Seen others o = CandidateBelow T x o ⊎ Here others o
 
     -- the scan of a step's set: what is left is part of the set, and the choice is among what is seen
-    abbrev pub Scanned : ℕ → Choice → Type 0
+    abbrev pub Scanned : ℕ → Option Choice → Type 0
     Scanned others r = Within others here × Chosen T (Seen others) r
 
     next : (o : Order) → CandidateBelow T x o → CandidateBelow T (x + 1) o
     next o c = record { step = c.step; step_below = omega (arith, c.step_below); still_undecided = c.still_undecided; is_order = c.is_order }
 
-    pub scan_start : (r : Choice) → Chosen T (CandidateBelow T x) r → Scanned here r
+    pub scan_start : (r : Option Choice) → Chosen T (CandidateBelow T x) r → Scanned here r
     scan_start r R = (λ d h. h, chosen_as T (λ o. (inl, back o)) r R)
       where
         back : (o : Order) → Seen here o → CandidateBelow T x o
         back o (inl c) = c
         back o (inr h) = clash h.0 h.1
 
-    pub scan_end : (others : ℕ) → others ≤ 0 → (r : Choice) → Scanned others r → Chosen T (CandidateBelow T (x + 1)) r
+    pub scan_end : (others : ℕ) → others ≤ 0 → (r : Option Choice) → Scanned others r → Chosen T (CandidateBelow T (x + 1)) r
     scan_end others none r (_, R) = chosen_as T (λ o. (on o, back o)) r R
       where
         empty : (d : ℕ) → has others d ≡ false
@@ -77,7 +73,7 @@ module _ (T : Tables) where
             ]
 
     -- nothing is undecided at the step
-    pub scan_skip : here ≤ 0 → (r : Choice) → Chosen T (CandidateBelow T x) r → Chosen T (CandidateBelow T (x + 1)) r
+    pub scan_skip : here ≤ 0 → (r : Option Choice) → Chosen T (CandidateBelow T x) r → Chosen T (CandidateBelow T (x + 1)) r
     scan_skip none r R = scan_end here none r (scan_start r R)
 
     -- the lowest of what is left is looked at
@@ -107,7 +103,7 @@ module _ (T : Tables) where
           ]
 
       -- the cost is passed on and stored by its bits
-      module _ (below : x < 128) (few : a < 16) (v : ℤ) (fits : SFits w32 v) (its_cost : CostIs (clear_at T x a) (latest_at T x) v) (r : Choice)
+      module _ (below : x < 128) (few : a < 16) (v : ℤ) (fits : SFits w32 v) (its_cost : CostIs (clear_at T x a) (latest_at T x) v) (r : Option Choice)
           (scanned : Scanned others r) where
         is_here_lem : has here a ≡ true
         is_here_lem = scanned.0 a low.member
@@ -118,7 +114,7 @@ module _ (T : Tables) where
         same : bits v ≡ v
         same = to_z-of_z w32 v fits
 
-        pub scan_over : is_taken_at T.zone T.rank x a (bits v) r ≡ true → Scanned rest (record { found = true; cost = bits v; step = x; first = a })
+        pub scan_over : is_taken_at T.zone T.rank x a (bits v) r ≡ true → Scanned rest (Some (record { cost = bits v; step = x; first = a }))
         scan_over over = (
           within,
           rw same
@@ -129,6 +125,6 @@ module _ (T : Tables) where
         pub scan_stays : is_taken_at T.zone T.rank x a (bits v) r ≡ false → Scanned rest r
         scan_stays under = (
           within,
-          chosen_stays T x a below few is_here_lem v its_cost (Seen others) (Seen rest) (inr (is_here_lem, lowest_gone, refl)) either r scanned.1 all_stay
+          chosen_stays T x a below few is_here_lem v its_cost (Seen others) (Seen rest) (inr (is_here_lem, lowest_gone, refl)) either all_stay r scanned.1
               (rw same at under),
         )

@@ -6,6 +6,7 @@ use native.Mathlib.Omega.{arith}
 use lib.ListN.{length, get_or}
 use lib.IntN.{ℤ, pos, neg_ℤ, ◌+ℤ◌, ◌-ℤ◌, +ℤ_assoc, neg_ℤ-+ℤ}
 use borrow.Author.Tests.{ne_eqb}
+use Rattle.std.specs.Prelude.{Some}
 use Rattle.sets.specs.inner.Member.{has}
 use Rattle.routes.specs.Lists.{place_of}
 use Rattle.routes.proofs.Places.{place_below, place_names, place_is}
@@ -82,6 +83,6 @@ module _ (U : Unplanned) (T : Tables) (K : Costable U T) (x a : ℕ) (below : x 
 -- whether one candidate is taken over another
 pub told_taken : (U : Unplanned) (T : Tables) → Tabled U T.zone T.cross T.passing T.rank T.visit → (x a : ℕ) (v : ℤ) (r : Choice)
     → OfCarts U (order_at T x a) → OfCarts U (order_at T r.step r.first)
-    → is_taken_at T.zone T.rank x a v r ≡ is_taken_over U (record { order = order_at T x a; cost = v }) (chosen T r)
+    → is_taken_at T.zone T.rank x a v (Some r) ≡ is_taken_over U (record { order = order_at T x a; cost = v }) (chosen T r)
 unfolding wins_tie is_taken_over
 told_taken U T K x a v r (f, s) (g, t) = rw (K.rank_is a f, K.rank_is (x / 8) s, K.rank_is r.first g, K.rank_is (r.step / 8) t)

@@ -108,13 +108,8 @@ module _ (sheet visitors : List ℕ) where
     pub pairs_128 : length pairs ≡ 128
     pub passed : (k : ℕ) → k < x → Parted (visiting_at sheet visitors k) (mates_of sheet (k / 8)) (k / 8) (get_or ahead k 0) (get_or behind k 0) (get_or pairs k 0)
 
-  pub started_none : (ahead behind pairs : List ℕ) → Lent sheet visitors ahead behind pairs → StartedTo 0 ahead behind pairs
-  started_none ahead behind pairs lent = record {
-    ahead_128 = lent.ahead_128;
-    behind_128 = lent.behind_128;
-    pairs_128 = lent.pairs_128;
-    passed = λ k l. absurd (omega arith);
-  }
+  pub started_none : StartedTo 0 (replicate 128 0) (replicate 128 0) (replicate 128 0)
+  started_none = record { ahead_128 = refl; behind_128 = refl; pairs_128 = refl; passed = λ k l. absurd (omega arith) }
 
   pub started_next : (x : ℕ) (ahead behind pairs : List ℕ) (who mates a b p : ℕ) → x < 128 → who ≡ visiting_at sheet visitors x
       → mates ≡ mates_of sheet (x / 8) → StartedTo x ahead behind pairs → Parted who mates (x / 8) a b p

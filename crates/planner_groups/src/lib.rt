@@ -1,7 +1,7 @@
 // A group of ranks opened in the tables of the orders present, and the tables at the start.
 #![tactic(auto)]
 
-ghost use Rattle.std.specs.Prelude.{◌≡◌, get_or, leb, ltb, ℕ, ◌<◌};
+ghost use Rattle.std.specs.Prelude.{◌≡◌, get_or, leb, ltb, ℕ, ◌<◌, replicate};
 ghost use Rattle.sets.specs.Counting.{set_below};
 ghost use Rattle.sets.specs.inner.Member.{has};
 ghost use Rattle.plan_lists.specs.inner.Sets.{Routes};
@@ -10,20 +10,19 @@ ghost use Rattle.planner_groups.specs.inner.Starting.{visiting_at, Lent, Starts}
 ghost use Rattle.planner_groups.specs.inner.Opening.{Joined, Opens};
 
 use judge_entering::{lanes, mates};
+use planner_orders::Present;
 use sets::carts;
-use sheet_table::{Table, wide};
+use sheet_table::Table;
 
 // The carts whose rank is `least` or more.
 pub fn at_least(ranks: &[u8; 16], least: usize) -> u16
     ensures { result ≡ set_below 16 (λ c. leb least (get_or ranks.now c 0)) }
 {
     let mut set = 0u16;
-    let mut c = 0;
-    while c < 16 {
-        if least <= wide(ranks[c]) {
+    for c in 0..16 {
+        if least <= ranks[c] as usize {
             set = carts::with(set, c);
         }
-        c += 1;
     }
     set
 }
@@ -42,24 +41,21 @@ fn joined(old: u16, more: u16, among: u16, on: bool) -> u16
 pub fn open_group(
     ranks: &[u8; 16],
     pairs: &[u16; 128],
-    ahead: &mut [u16; 128],
-    behind: &mut [u16; 128],
-    undecided: &mut [u16; 128],
+    present: &mut Present,
     low: usize,
     high: usize,
 )
-    ensures { Opens low high ranks.now pairs.now ahead.old behind.old undecided.old
-        ahead.new behind.new undecided.new }
+    ensures { Opens low high ranks.now pairs.now present.old.ahead present.old.behind present.old.undecided
+        present.new.ahead present.new.behind present.new.undecided }
 {
     let above = at_least(ranks, high);
     let within = carts::less(at_least(ranks, low), above);
-    let mut x = 0;
-    while x < 128 {
+    for x in 0..128 {
         let inside = carts::has(within, x / 8);
-        ahead[x] = joined(ahead[x], pairs[x], within, carts::has(above, x / 8));
-        behind[x] = joined(behind[x], pairs[x], above, inside);
-        undecided[x] = joined(undecided[x], pairs[x], within, inside);
-        x += 1;
+        let over = carts::has(above, x / 8);
+        present.ahead[x] = joined(present.ahead[x], pairs[x], within, over);
+        present.behind[x] = joined(present.behind[x], pairs[x], above, inside);
+        present.undecided[x] = joined(present.undecided[x], pairs[x], within, inside);
     }
 }
 
@@ -82,27 +78,22 @@ pub fn visiting(sheet: &Table, visitors: &[u16; 24], x: usize) -> u16
     0
 }
 
-// The tables before any group is opened: for each step the carts of its lane ahead and behind, and the carts with which it is a pair.
-pub fn start_orders(
-    sheet: &Table,
-    visitors: &[u16; 24],
-    ahead: &mut [u16; 128],
-    behind: &mut [u16; 128],
-    pairs: &mut [u16; 128],
-)
-    requires { Lent sheet.now visitors.now ahead.old behind.old pairs.old }
-    ensures { Starts sheet.now ahead.new behind.new pairs.new }
+// The tables before any group is opened: for each step the carts of its lane ahead and behind; and the carts with which it is a pair.
+pub fn start_orders(sheet: &Table, visitors: &[u16; 24]) -> (Present, [u16; 128])
+    requires { Lent sheet.now visitors.now }
+    ensures { Starts sheet.now result.0.ahead result.0.behind result.1 × (result.0.undecided ≡ replicate 128 0) }
 {
     let lanes = lanes(sheet);
-    let mut x = 0;
-    while x < 128 {
+    let mut present = Present::none();
+    let mut pairs = [0u16; 128];
+    for x in 0..128 {
         let who = visiting(sheet, visitors, x);
         let apart = carts::less(who, mates(sheet, &lanes, x / 8));
         let own = carts::less(who, apart);
         let later = carts::less(own, lower(x / 8));
         pairs[x] = apart;
-        ahead[x] = carts::less(own, later);
-        behind[x] = carts::without(later, x / 8);
-        x += 1;
+        present.ahead[x] = carts::less(own, later);
+        present.behind[x] = carts::without(later, x / 8);
     }
+    (present, pairs)
 }

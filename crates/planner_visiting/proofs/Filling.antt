@@ -1,9 +1,8 @@
 -- Places filled in step by step: each step's entry is its own, since a route names a zone at most once.
-use Prim.Native.Nat.{ℕ, ◌+◌, ◌*◌, ◌/◌, ◌%◌, ◌≤◌, ◌<◌}
-use mathlib.Core.Path.{◌≡◌, refl, sym, ap, ◌∙◌}
+use Prim.Native.Nat.{ℕ, ◌+◌, ◌*◌, ◌<◌}
+use mathlib.Core.Path.{◌≡◌, refl, sym, ◌∙◌}
 use mathlib.Core.List.{List}
 use native.Mathlib.Decide.{ℕ_discrete}
-use native.Mathlib.Nat.{div-add-mod}
 use native.Mathlib.Omega.{arith}
 use lib.ListN.{length, get_or, set, replicate, length-set}
 use lib.Seq.{get_or-set_same, get_or-set_other}
@@ -12,7 +11,7 @@ use Rattle.moves.proofs.Positions.{zeros_pos}
 use Rattle.routes.specs.inner.Lists.{Named}
 use Rattle.routes.proofs.Places.{place_is}
 use Rattle.crossing.specs.Plans.{route_of}
-use Rattle.planner_visiting.specs.inner.Visiting.{RoutesOnce, Places}
+use Rattle.planner_visiting.specs.inner.Visiting.{RoutesOnce}
 
 module _ (steps zone : List ℕ) where
   -- the steps that stand before x have their places
@@ -30,13 +29,6 @@ module _ (steps zone : List ℕ) where
     below = λ y. omega (arith, zeros_pos 384 y);
   }
 
-  pub placed_all : (x : ℕ) (visit : List ℕ) → RoutesOnce steps zone → 128 ≤ x → PlacedTo x visit → Places steps zone visit
-  placed_all x visit routed all to = record {
-    step_at = λ c j l h. to.step_at c j l h (omega (arith, routed.routes.few c));
-    not_visited = to.not_visited;
-    below = to.below;
-  }
-
   -- step j of cart c names its zone
   route_below : (c j : ℕ) → j < get_or steps c 0 → j < length (route_of steps zone c)
   route_below c j h = omega (arith, length_entries (get_or steps c 0) 0 (λ k. get_or zone (8 * c + k) 0))
@@ -52,76 +44,51 @@ module _ (steps zone : List ℕ) where
       sym (place_is (route_of steps zone c) z (routed.once c l) j (route_below c j h) (route_at c j h))
       ∙ place_is (route_of steps zone c) z (routed.once c l) i (route_below c i k) (route_at c i k ∙ sym e)
 
-  pub zone_below : RoutesOnce steps zone → (x : ℕ) → x % 8 < get_or steps (x / 8) 0 → get_or zone x 0 < 24
-  zone_below routed x h = omega (arith, routed.routes.known (x / 8) (x % 8) h, ap (λ (y : ℕ). get_or zone y 0) (div-add-mod x 8))
+  module _ (routed : RoutesOnce steps zone) (c j : ℕ) (l : c < 16) (h : j < get_or steps c 0) where
+    place_below : 16 * get_or zone (8 * c + j) 0 + c < 384
+    place_below = omega (arith, routed.routes.known c j h)
 
-  module _ (routed : RoutesOnce steps zone) (x : ℕ) (l : x < 128) (visit : List ℕ) (to : PlacedTo x visit) where
-    abbrev cart : ℕ
-    cart = x / 8
+    step_below : 8 * c + j < 128
+    step_below = omega (arith, routed.routes.few c)
 
-    abbrev step : ℕ
-    step = x % 8
+    abbrev x : ℕ
+    x = 8 * c + j
 
-    split : 8 * cart + step ≡ x
-    split = div-add-mod x 8
+    abbrev place : ℕ
+    place = 16 * get_or zone x 0 + c
 
-    -- a step that stands at x is this one
-    here_is : (c j : ℕ) → j < get_or steps c 0 → 8 * c + j ≡ x → (c ≡ cart) × (j ≡ step)
-    here_is c j h e = (omega (arith, routed.routes.few c), omega (arith, routed.routes.few c))
+    -- an entry at this place is this cart's, in this zone
+    same_place : (z d : ℕ) → d < 16 → 16 * z + d ≡ place → (d ≡ c) × (z ≡ get_or zone x 0)
+    same_place z d k e = (omega arith, omega arith)
 
-    pub placed_past : get_or steps cart 0 ≤ step → PlacedTo (x + 1) visit
-    placed_past none = record {
-      sized = to.sized;
-      step_at = λ c j k h b. to.step_at c j k h (earlier c j h b);
-      not_visited = to.not_visited;
-      below = to.below;
+    pub placed_next : (visit : List ℕ) → PlacedTo x visit → PlacedTo (8 * c + (j + 1)) (set visit place x)
+    placed_next visit to = record {
+      sized = length-set visit place x ∙ to.sized;
+      step_at = λ d i k m b. at_step d i k m b (ℕ_discrete (8 * d + i) x);
+      not_visited = λ z d k n. get_or-set_other visit place (16 * z + d) x 0 (λ e. n (visited z d (same_place z d k e))) ∙ to.not_visited z d k n;
+      below = λ y. at_place y (ℕ_discrete y place);
     }
       where
-        earlier : (c j : ℕ) → j < get_or steps c 0 → 8 * c + j < x + 1 → 8 * c + j < x
-        earlier c j h b = go (ℕ_discrete (8 * c + j) x)
+        here : get_or (set visit place x) place 0 ≡ x
+        here = get_or-set_same visit place x 0 (omega (arith, to.sized, place_below))
+
+        visited : (z d : ℕ) → (d ≡ c) × (z ≡ get_or zone x 0) → Named (route_of steps zone d) z
+        visited z d (e, q) = rw (e, q) (j, route_below c j h, route_at c j h)
+
+        at_place : (y : ℕ) → Dec (y ≡ place) → get_or (set visit place x) y 0 < 128
+        at_place y (yes e) = rw (e, here) step_below
+        at_place y (no n) = rw (get_or-set_other visit place y x 0 n) (to.below y)
+
+        at_step : (d i : ℕ) → d < 16 → i < get_or steps d 0 → 8 * d + i < 8 * c + (j + 1) → Dec (8 * d + i ≡ x)
+            → get_or (set visit place x) (16 * get_or zone (8 * d + i) 0 + d) 0 ≡ 8 * d + i
+        at_step d i k m b (yes e) =
+            let same : d ≡ c = omega (arith, routed.routes.few c, routed.routes.few d) in
+            rw (e, same) here
+        at_step d i k m b (no n) =
+            get_or-set_other visit place (16 * get_or zone (8 * d + i) 0 + d) x 0 (λ e. n (twice (same_place (get_or zone (8 * d + i) 0) d k e)))
+            ∙ to.step_at d i k m (omega (arith, n))
           where
-            go : Dec (8 * c + j ≡ x) → 8 * c + j < x
-            go (no n) = omega (arith, n)
-            go (yes e) = let at = here_is c j h e in absurd (omega (arith, at.1, ap (λ (d : ℕ). get_or steps d 0) at.0))
-
-    module _ (is_step : step < get_or steps cart 0) where
-      abbrev place : ℕ
-      place = 16 * get_or zone x 0 + cart
-
-      place_below : place < 384
-      place_below = omega (arith, zone_below routed x is_step)
-
-      cart_below : cart < 16
-      cart_below = omega (arith, split)
-
-      -- an entry at this place is this cart's, in this zone
-      same_place : (z c : ℕ) → c < 16 → 16 * z + c ≡ place → (c ≡ cart) × (z ≡ get_or zone x 0)
-      same_place z c k e = (omega (arith, cart_below), omega (arith, cart_below))
-
-      pub placed_next : PlacedTo (x + 1) (set visit place x)
-      placed_next = record {
-        sized = length-set visit place x ∙ to.sized;
-        step_at = λ c j k h b. at_step c j k h b (ℕ_discrete (8 * c + j) x);
-        not_visited = λ z c k n. get_or-set_other visit place (16 * z + c) x 0 (λ e. n (visited z c (same_place z c k e))) ∙ to.not_visited z c k n;
-        below = λ y. at_place y (ℕ_discrete y place);
-      }
-        where
-          visited : (z c : ℕ) → (c ≡ cart) × (z ≡ get_or zone x 0) → Named (route_of steps zone c) z
-          visited z c (e, q) = rw (e, q) (step, route_below cart step is_step, route_at cart step is_step ∙ ap (λ (y : ℕ). get_or zone y 0) split)
-
-          at_place : (y : ℕ) → Dec (y ≡ place) → get_or (set visit place x) y 0 < 128
-          at_place y (yes e) = rw (e, get_or-set_same visit place x 0 (omega (arith, to.sized, place_below))) l
-          at_place y (no n) = rw (get_or-set_other visit place y x 0 n) (to.below y)
-
-          at_step : (c j : ℕ) → c < 16 → j < get_or steps c 0 → 8 * c + j < x + 1 → Dec (8 * c + j ≡ x)
-              → get_or (set visit place x) (16 * get_or zone (8 * c + j) 0 + c) 0 ≡ 8 * c + j
-          at_step c j k h b (yes e) = rw (e, (here_is c j h e).0) (get_or-set_same visit place x 0 (omega (arith, to.sized, place_below)))
-          at_step c j k h b (no n) =
-              get_or-set_other visit place (16 * get_or zone (8 * c + j) 0 + c) x 0 (λ e. n (twice (same_place (get_or zone (8 * c + j) 0) c k e)))
-              ∙ to.step_at c j k h (omega (arith, n))
-            where
-              twice : (c ≡ cart) × (get_or zone (8 * c + j) 0 ≡ get_or zone x 0) → 8 * c + j ≡ x
-              twice (e, q) =
-                  let this : j ≡ step = same_step routed c j step k h (omega (arith, ap (λ (d : ℕ). get_or steps d 0) e))
-                  (q ∙ ap (λ (y : ℕ). get_or zone y 0) (sym split ∙ ap (λ (d : ℕ). 8 * d + step) (sym e))) in
-                  omega (arith, split)
+            twice : (d ≡ c) × (get_or zone (8 * d + i) 0 ≡ get_or zone x 0) → 8 * d + i ≡ x
+            twice (e, q) =
+                let this : i ≡ j = same_step routed c i j l (rw e at m) h (rw e at q) in
+                omega (arith, this, e)

@@ -12,14 +12,12 @@ pub fn visit_places(sheet: &Table) -> [u8; 384]
     ensures { Places (steps sheet.now) (zone sheet.now) result }
 {
     let mut visit = [0u8; 384];
-    let mut x = 0;
-    while x < 128 {
-        let c = x / 8;
-        if x % 8 < sheet_table::steps(sheet, c) {
+    for c in 0..16 {
+        for j in 0..sheet_table::steps(sheet, c) {
+            let x = 8 * c + j;
             let z = sheet_table::zone(sheet, x);
             visit[16 * z + c] = x as u8;
         }
-        x += 1;
     }
     visit
 }

@@ -1,56 +1,19 @@
--- Every entry of a valid sheet's parts, used or not, is in the range of its field; and a part that is copied whole is the part.
+-- Every entry of a valid sheet's steps, used or not, is in the range of its field.
 use Prim.Native.Nat.{ℕ, ◌+◌, ◌*◌, ◌/◌, ◌%◌, ◌≤◌, ◌<◌}
-use mathlib.Core.Path.{◌≡◌, refl, sym, ◌∙◌}
-use mathlib.Core.List.{List}
+use mathlib.Core.Path.{◌≡◌}
 use native.Mathlib.Omega.{arith}
 use native.Mathlib.Decide.{dec_lt}
 use lib.ListN.{get_or}
-use Rattle.words.specs.Lists.{table}
-use Rattle.words.specs.Limits.{most_time, latest_arrival}
-use Rattle.words.proofs.Entries.{entries_is}
-use Rattle.words.proofs.Filling.{table_all}
+use Rattle.words.specs.Limits.{most_time}
 use Rattle.sheet.specs.Valid.{steps, Valid, ValidStep}
 use Rattle.sheet.specs.declared.Sheet.{Sheet}
-use Rattle.sheet_table.specs.inner.Parts.{part}
 use Rattle.sheet_filling.specs.inner.Filled.{Entries}
-
--- entry i of the n from a place on
-abbrev pub at : ℕ → ℕ → List ℕ → ℕ → ℕ
-at from n t i = get_or (part from n t) i 0
-
-pub copied : (from n most : ℕ) (t out : List ℕ) (i : ℕ) → Entries n most (part from n t) → i ≡ n → out ≡ table n i (at from n t) → out ≡ part from n t
-copied from n most t out i p e h =
-    h ∙ table_all n (at from n t) i e ∙ sym (entries_is (part from n t) n (at from n t) p.count (λ k _. refl))
 
 -- what holds of all entries, where step j of cart i stands at 8 * i + j
 by_step : (P : ℕ → Type 0) → ((i j : ℕ) → j < 8 → P (8 * i + j)) → (x : ℕ) → P x
 by_step P h x = let is : 8 * (x / 8) + x % 8 ≡ x = omega arith in rw is at (h (x / 8) (x % 8) (omega arith))
 
 module _ (sheet : Sheet) (v : Valid sheet) where
-  pub follow_entries : Entries 24 most_time sheet.follow
-  follow_entries = record {
-    count = v.shaped.follow_24;
-    range = λ z. elim (dec_lt z sheet.zones) [ yes l ↦ v.follow_most z l | no n ↦ omega (arith, v.unused.no_follow z (omega arith)) ];
-  }
-
-  pub cross_entries : Entries 24 most_time sheet.cross
-  cross_entries = record {
-    count = v.shaped.cross_24;
-    range = λ z. elim (dec_lt z sheet.zones) [ yes l ↦ v.cross_most z l | no n ↦ omega (arith, v.unused.no_cross z (omega arith)) ];
-  }
-
-  pub lane_entries : Entries 16 255 sheet.lane
-  lane_entries = record {
-    count = v.shaped.lane_16;
-    range = λ i. elim (dec_lt i sheet.carts) [ yes l ↦ omega (arith, (v.cart i l).lane_most) | no n ↦ omega (arith, v.unused.no_lane i (omega arith)) ];
-  }
-
-  pub arrival_entries : Entries 16 latest_arrival sheet.arrival
-  arrival_entries = record {
-    count = v.shaped.arrival_16;
-    range = λ i. elim (dec_lt i sheet.carts) [ yes l ↦ (v.cart i l).arrival_most | no n ↦ omega (arith, v.unused.no_arrival i (omega arith)) ];
-  }
-
   pub steps_entries : Entries 16 255 sheet.steps
   steps_entries = record {
     count = v.shaped.steps_16;

@@ -2,13 +2,13 @@
 #![tactic(auto)]
 
 ghost use Rattle.std.specs.Prelude.{ℕ, ◌+◌, ◌≤◌, ◌<◌, ◌≡◌};
-ghost use Rattle.words.specs.Limits.{most_time, latest_arrival};
 ghost use Rattle.sheet.specs.Valid.{Valid};
-ghost use Rattle.sheet_table.specs.inner.Parts.{part, steps};
+ghost use Rattle.sheet_table.specs.inner.Parts.{steps};
 ghost use Rattle.sheet_filling.specs.inner.Filled.{sheet_in, with_gaps, with_cart, with_step, Entries};
 
 use sheet::Sheet;
-use sheet_table::{ARRIVAL, CROSS, FOLLOW, LANE, PASSING, STEPS, TRAVEL, Table, ZONE, entry};
+use sheet_table::{ARRIVAL, CROSS, FOLLOW, LANE, PASSING, STEPS, TRAVEL, Table, ZONE};
+use std::array::from_fn;
 
 // Zone z's gaps are stored.
 pub fn put_gaps(sheet: &mut Table, z: usize, follow: u32, cross: u32)
@@ -39,82 +39,12 @@ pub fn put_step(sheet: &mut Table, x: usize, zone: u8, passing: u16, travel: u16
     sheet[TRAVEL + x] = travel as u32;
 }
 
-// A part of a gap for each zone.
-fn gaps_of(sheet: &Table, from: usize) -> [u16; 24]
-    requires { (from + 24 ≤ 480) × Entries 24 most_time (part from 24 sheet.now) }
-    ensures { result ≡ part from 24 sheet.now }
-{
-    let mut out = [0u16; 24];
-    let mut i = 0;
-    while i < 24 {
-        out[i] = entry(sheet, from, 24, i) as u16;
-        i += 1;
-    }
-    out
-}
-
-// A part of a byte for each cart.
-fn bytes_of(sheet: &Table, from: usize) -> [u8; 16]
-    requires { (from + 16 ≤ 480) × Entries 16 255 (part from 16 sheet.now) }
-    ensures { result ≡ part from 16 sheet.now }
-{
-    let mut out = [0u8; 16];
-    let mut i = 0;
-    while i < 16 {
-        out[i] = entry(sheet, from, 16, i) as u8;
-        i += 1;
-    }
-    out
-}
-
 // The step counts, as bytes.
 pub fn step_counts(sheet: &Table) -> [u8; 16]
     requires { Entries 16 255 (steps sheet.now) }
     ensures { result ≡ steps sheet.now }
 {
-    bytes_of(sheet, STEPS)
-}
-
-// A part of a word for each cart.
-fn arrivals_of(sheet: &Table, from: usize) -> [u32; 16]
-    requires { (from + 16 ≤ 480) × Entries 16 latest_arrival (part from 16 sheet.now) }
-    ensures { result ≡ part from 16 sheet.now }
-{
-    let mut out = [0u32; 16];
-    let mut i = 0;
-    while i < 16 {
-        out[i] = entry(sheet, from, 16, i);
-        i += 1;
-    }
-    out
-}
-
-// A part of a byte for each step.
-fn zones_of(sheet: &Table, from: usize) -> [u8; 128]
-    requires { (from + 128 ≤ 480) × Entries 128 255 (part from 128 sheet.now) }
-    ensures { result ≡ part from 128 sheet.now }
-{
-    let mut out = [0u8; 128];
-    let mut i = 0;
-    while i < 128 {
-        out[i] = entry(sheet, from, 128, i) as u8;
-        i += 1;
-    }
-    out
-}
-
-// A part of a time for each step.
-fn times_of(sheet: &Table, from: usize) -> [u16; 128]
-    requires { (from + 128 ≤ 480) × Entries 128 most_time (part from 128 sheet.now) }
-    ensures { result ≡ part from 128 sheet.now }
-{
-    let mut out = [0u16; 128];
-    let mut i = 0;
-    while i < 128 {
-        out[i] = entry(sheet, from, 128, i) as u16;
-        i += 1;
-    }
-    out
+    from_fn(|c| sheet_table::steps(sheet, c) as u8)
 }
 
 // The valid sheet that a table stands for, as a struct.
@@ -124,14 +54,14 @@ pub fn sheet_of(zones: usize, carts: usize, sheet: &Table) -> Sheet
 {
     Sheet {
         zones,
-        follow: gaps_of(sheet, FOLLOW),
-        cross: gaps_of(sheet, CROSS),
+        follow: from_fn(|z| sheet_table::follow(sheet, z) as u16),
+        cross: from_fn(|z| sheet_table::cross(sheet, z) as u16),
         carts,
-        lane: bytes_of(sheet, LANE),
-        arrival: arrivals_of(sheet, ARRIVAL),
+        lane: from_fn(|c| sheet_table::lane(sheet, c) as u8),
+        arrival: from_fn(|c| sheet_table::arrival(sheet, c)),
         steps: step_counts(sheet),
-        zone: zones_of(sheet, ZONE),
-        passing: times_of(sheet, PASSING),
-        travel: times_of(sheet, TRAVEL),
+        zone: from_fn(|x| sheet_table::zone(sheet, x) as u8),
+        passing: from_fn(|x| sheet_table::passing(sheet, x) as u16),
+        travel: from_fn(|x| sheet_table::travel(sheet, x) as u16),
     }
 }

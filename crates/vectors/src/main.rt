@@ -12,139 +12,131 @@ use std::rt::Files;
 use std::str::from_utf8;
 use std::{fs, io};
 
-// What was read of the present line, and how many digits of the sheet and of the plan.
-#[derive(Clone, Copy)]
+// What was read of a sheet or a plan on the present line: how many digits, none where the line has no such part, and the bytes that they fill.
+// A sheet or plan that is longer than the bytes is cut there: no length field fits it, whole or cut.
+#[derive(Drop)]
+struct Part {
+    digits: Option<usize>,
+    bytes: [u8; 65536],
+}
+
+impl Part {
+    fn missing() -> Part {
+        Part {
+            digits: None,
+            bytes: [0; 65536],
+        }
+    }
+
+    // The line has this part, though it may have no bytes.
+    fn begin(&mut self) {
+        self.digits = Some(self.digits.unwrap_or(0));
+    }
+
+    // Puts a digit at the right end of its byte: two of them push out what the byte held.
+    fn take_digit(&mut self, digit: u32)
+        requires { digit < 16 }
+    {
+        let digits = self.digits.unwrap_or(0);
+        if let Some(byte) = self.bytes.get_mut(digits / 2) {
+            *byte = *byte % 16 * 16 + digit as u8;
+            self.digits = Some(digits + 1);
+        }
+    }
+
+    // The bytes that were read.
+    fn read(&self) -> Option<&[u8]> {
+        let digits = self.digits?;
+        Some(self.bytes.get(..digits / 2).unwrap_or(&self.bytes))
+    }
+}
+
+// What was read of the present line.
+#[derive(Drop)]
 struct Line {
     number: u64,
     is_comment: bool,
-    is_sheet: bool,
-    is_plan: bool,
-    sheet_digits: usize,
-    plan_digits: usize,
+    sheet: Part,
+    plan: Part,
 }
 
-fn blank_line(number: u64) -> Line {
-    Line {
-        number,
-        is_comment: false,
-        is_sheet: false,
-        is_plan: false,
-        sheet_digits: 0,
-        plan_digits: 0,
-    }
-}
-
-fn name(rt: &impl Print, kind: &[u8], number: u64) -> io::Result<()> {
-    sheet_text::put(rt, kind, number)?;
-    rt.write_all(b":\n")
-}
-
-// The bytes that were read by so many digits.
-fn bytes_read(bytes: &[u8], digits: usize) -> &[u8] {
-    let n = digits / 2;
-    if n <= bytes.len() { &bytes[..n] } else { bytes }
-}
-
-// Shows what the line holds, if it holds a sheet.
-fn show_line(rt: &impl Print, line: Line, sheet: &[u8], plan: &[u8]) -> io::Result<()> {
-    if line.is_sheet {
-        name(rt, b"line ", line.number)?;
-        let s = bytes_read(sheet, line.sheet_digits);
-        if line.is_plan {
-            let p = bytes_read(plan, line.plan_digits);
-            plan_text::show_plan(rt, s, p)?;
-            judge_text::show_judged(rt, s, p)?;
-        } else {
-            sheet_text::show_sheet(rt, s)?;
+impl Line {
+    fn first() -> Line {
+        Line {
+            number: 1,
+            is_comment: false,
+            sheet: Part::missing(),
+            plan: Part::missing(),
         }
     }
-    Ok(())
-}
 
-// The value of a hexadecimal digit, and 16 for any other character.
-fn digit(c: u8) -> u8 {
-    match c {
-        b'0'..=b'9' => c - b'0',
-        b'A'..=b'F' => c - b'A' + 10,
-        b'a'..=b'f' => c - b'a' + 10,
-        _ => 16,
+    // Shows what the line holds, if it holds a sheet.
+    fn show(&self, rt: &impl Print) -> io::Result<()> {
+        let Some(s) = self.sheet.read() else {
+            return Ok(());
+        };
+        println!(rt; "line {}:", self.number)?;
+        let Some(p) = self.plan.read() else {
+            return sheet_text::show_sheet(rt, s);
+        };
+        plan_text::show_plan(rt, s, p)?;
+        judge_text::show_judged(rt, s, p)
     }
-}
 
-// Puts a digit at the right end of its byte, and answers how many digits there are: two of them push out what the byte held.
-// A sheet or plan that is longer than the buffer is cut there: no length field fits it, whole or cut.
-fn take_digit(digits: usize, d: u8, bytes: &mut [u8]) -> usize
-    requires { d < 16 }
-{
-    let i = digits / 2;
-    if bytes.len() <= i {
-        return digits;
+    // Shows the line, and begins the next.
+    fn end(&mut self, rt: &impl Print) -> io::Result<()> {
+        self.show(rt)?;
+        self.number = self.number.wrapping_add(1);
+        self.is_comment = false;
+        self.sheet.digits = None;
+        self.plan.digits = None;
+        Ok(())
     }
-    bytes[i] = bytes[i] % 16 * 16 + d;
-    digits + 1
-}
 
-fn take_character(
-    rt: &impl Print,
-    line: Line,
-    c: u8,
-    sheet: &mut [u8],
-    plan: &mut [u8],
-) -> io::Result<Line> {
-    if c == b'\n' {
-        show_line(rt, line, sheet, plan)?;
-        return Ok(blank_line(line.number.wrapping_add(1)));
-    }
-    if line.is_comment {
-        return Ok(line);
-    }
-    let mut taken = line;
-    let d = digit(c);
-    if d < 16 {
-        taken.is_sheet = true;
-        if line.is_plan {
-            taken.plan_digits = take_digit(line.plan_digits, d, plan);
+    // A digit of the plan after the bar, of the sheet before it; the line has a sheet either way.
+    fn take_digit(&mut self, digit: u32)
+        requires { digit < 16 }
+    {
+        self.sheet.begin();
+        if self.plan.digits.is_some() {
+            self.plan.take_digit(digit);
         } else {
-            taken.sheet_digits = take_digit(line.sheet_digits, d, sheet);
+            self.sheet.take_digit(digit);
         }
-        return Ok(taken);
     }
-    taken.is_comment = c == b'#';
-    taken.is_sheet = line.is_sheet || c == b'-';
-    taken.is_plan = line.is_plan || c == b'|';
-    Ok(taken)
-}
 
-fn take_text(
-    rt: &impl Print,
-    line: Line,
-    text: &[u8],
-    sheet: &mut [u8],
-    plan: &mut [u8],
-) -> io::Result<Line> {
-    let mut taken = line;
-    let mut i = 0;
-    while i < text.len() {
-        taken = take_character(rt, taken, text[i], sheet, plan)?;
-        i += 1;
+    // Takes the next character: the line's end, a mark, a digit, or one that is passed over.
+    fn take(&mut self, rt: &impl Print, c: u8) -> io::Result<()> {
+        match c {
+            b'\n' => self.end(rt)?,
+            _ if self.is_comment => {}
+            b'#' => self.is_comment = true,
+            b'-' => self.sheet.begin(),
+            b'|' => self.plan.begin(),
+            _ => {
+                if let Some(digit) = char::from(c).to_digit(16) {
+                    self.take_digit(digit);
+                }
+            }
+        }
+        Ok(())
     }
-    Ok(taken)
 }
 
 // A proved loop has to end, and nothing says that a file does: it has more turns than any run uses up.
 fn show_file(rt: &impl Print, file: &mut impl Read) -> io::Result<()> {
     let mut text = [0u8; 65536];
-    let mut sheet = [0u8; 65536];
-    let mut plan = [0u8; 65536];
-    let mut line = blank_line(1);
+    let mut line = Line::first();
     for _ in 0..u64::MAX {
         let n = file.read(&mut text)?;
         if n == 0 {
             break;
         }
-        line = take_text(rt, line, &text[..n], &mut sheet, &mut plan)?;
+        for &c in &text[..n] {
+            line.take(rt, c)?;
+        }
     }
-    show_line(rt, line, &sheet, &plan)
+    line.show(rt)
 }
 
 // Opens a file by its name, which is text.
@@ -180,7 +172,7 @@ fn show_argument(
 ) -> io::Result<()> {
     match opened(rt, path) {
         Ok(mut file) => {
-            name(rt, b"file ", i as u64)?;
+            println!(rt; "file {i}:")?;
             show_file(rt, &mut file)
         }
         Err(error) => fail(errors, alloc, path, error),

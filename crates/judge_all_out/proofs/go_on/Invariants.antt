@@ -1,10 +1,6 @@
 -- From the lane no zone is left; the loop keeps which zone the cart has come into, by permitted moves; it ends where the cart is held, or out.
-use Prim.Native.Nat.{◌-◌}
 use Rattle.judge_all_out.proofs.OneCart.{GoingOn}
 use Rattle.judge_all_out.proofs.go_on.Given as goal
 
 abbrev pub invariant-loop-p : goal.invariant-loop-p
 invariant-loop-p l = GoingOn l.sheet l.ahead l.at l.left l.c l.p
-
-abbrev pub decreases-loop-p : goal.decreases-loop-p
-decreases-loop-p l = l.k - l.p

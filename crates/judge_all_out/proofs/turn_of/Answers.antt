@@ -1,6 +1,6 @@
 use mathlib.Core.Path.{refl}
 use Rattle.crossing.proofs.Tables.{steps_is}
-use Rattle.judge_all_out.proofs.OneCart.{in_table, stands_free, stands_held}
+use Rattle.judge_all_out.proofs.OneCart.{stands_free, stands_held}
 use Rattle.judge_all_out.proofs.Turns.{turning_start, turning_wants, turning_held, turning_out, turning_stays, turning_end}
 use Rattle.judge_all_out.proofs.turn_of.Goals as goal
 
@@ -12,41 +12,29 @@ may_go_in-requires c = (
   c.loop-turn.invariant.have_moved.standing,
   c.lowest-c.ensures.0,
   c.requires.2,
-  turning_wants _ _ _ _ _ _ _ c.loop-turn.invariant _ _ c.lowest-c.ensures.1
+  turning_wants _ _ _ _ _ _ _ _ c.loop-turn.invariant _ _ c.lowest-c.ensures.1
       c.rest-turn.ensures _ (steps_is _ _ _ _ _ c.lowest-c.ensures.0),
 )
 
-pub go_on-to-requires : goal.go_on-to-requires
-go_on-to-requires c = stands_free _ _ _ _ c.loop-turn.invariant.have_moved _
-    c.lowest-c.ensures.0 _ c.may_go_in.ensures (turning_wants _ _ _ _ _ _ _ c.loop-turn.invariant _ _
+pub go_on-requires : goal.go_on-requires
+go_on-requires c = stands_free _ _ _ _ c.loop-turn.invariant.have_moved _
+    c.lowest-c.ensures.0 _ c.may_go_in.ensures (turning_wants _ _ _ _ _ _ _ _ c.loop-turn.invariant _ _
     c.lowest-c.ensures.1 c.rest-turn.ensures _ refl)
     c.if-may_go_in.true
 
-pub loop-turn-smaller-then-steps-wide : goal.loop-turn-smaller-then-steps-wide
-loop-turn-smaller-then-steps-wide c = c.rest-turn.ensures.smaller
+pub loop-turn-preserved-then-steps-at : goal.loop-turn-preserved-then-steps-at
+loop-turn-preserved-then-steps-at c = turning_out _ _ _ _ _ _ _ _ c.loop-turn.invariant _ _ c.lowest-c.ensures.1
+    c.rest-turn.ensures _ _ c.go_on.ensures _ _ (steps_is _ _ _ _ _ c.lowest-c.ensures.0)
+    (rw c.steps.ensures at c.if-steps-at.true) c.without-still.ensures
 
-pub loop-turn-preserved-then-steps-wide : goal.loop-turn-preserved-then-steps-wide
-loop-turn-preserved-then-steps-wide c = turning_out _ _ _ _ _ _ _ c.loop-turn.invariant _ _ c.lowest-c.ensures.1
-    c.rest-turn.ensures _ _ c.go_on-to.ensures (in_table _ _ _ _ c.loop-turn.invariant.have_moved _
-    c.lowest-c.ensures.0) _ _ (steps_is _ _ _ _ _ c.lowest-c.ensures.0)
-    (rw (c.steps.ensures, c.wide.ensures.0) at c.if-steps-wide.true) c.without-still.ensures
-
-pub loop-turn-smaller-else-steps-wide : goal.loop-turn-smaller-else-steps-wide
-loop-turn-smaller-else-steps-wide c = c.rest-turn.ensures.smaller
-
-pub loop-turn-preserved-else-steps-wide : goal.loop-turn-preserved-else-steps-wide
-loop-turn-preserved-else-steps-wide c = turning_stays _ _ _ _ _ _ _ c.loop-turn.invariant _ _ c.lowest-c.ensures.1
-    c.rest-turn.ensures _ _ c.go_on-to.ensures (in_table _ _ _ _ c.loop-turn.invariant.have_moved _
-    c.lowest-c.ensures.0) _ (steps_is _ _ _ _ _
-    c.lowest-c.ensures.0) (rw (c.steps.ensures, c.wide.ensures.0) at c.if-steps-wide.false)
-
-pub loop-turn-smaller : goal.loop-turn-smaller
-loop-turn-smaller c = c.rest-turn.ensures.smaller
+pub loop-turn-preserved-else-steps-at : goal.loop-turn-preserved-else-steps-at
+loop-turn-preserved-else-steps-at c = turning_stays _ _ _ _ _ _ _ _ c.loop-turn.invariant _ _ c.lowest-c.ensures.1
+    c.rest-turn.ensures _ _ c.go_on.ensures _ (steps_is _ _ _ _ _ c.lowest-c.ensures.0) (rw c.steps.ensures at c.if-steps-at.false)
 
 pub loop-turn-preserved : goal.loop-turn-preserved
-loop-turn-preserved c = turning_held _ _ _ _ _ _ _ c.loop-turn.invariant _ _
+loop-turn-preserved c = turning_held _ _ _ _ _ _ _ _ c.loop-turn.invariant _ _
     c.lowest-c.ensures.1 c.rest-turn.ensures (stands_held _ _ _ _
     c.loop-turn.invariant.have_moved _ c.lowest-c.ensures.0 _ c.may_go_in.ensures c.if-may_go_in.false)
 
 pub returns : goal.returns
-returns c = turning_end _ _ _ _ _ _ _ c.loop-turn.invariant c.loop-turn-test.false
+returns c = rw c.then_some.ensures (turning_end _ _ _ _ _ _ _ _ c.loop-turn.invariant c.loop-turn-test.false)

@@ -1,5 +1,5 @@
 -- Moves by where the carts stand and who has left each zone, and no times: one cart's, as far as it may go, and a turn of the carts that are not out.
-use Rattle.std.specs.Prelude.{ℕ, ◌≤◌, ◌<◌, ◌≡◌, true, false, List, length}
+use Rattle.std.specs.Prelude.{ℕ, ◌<◌, ◌≡◌, List, length, Option, Some, None}
 use Rattle.moves.specs.System.{pos, sum}
 use Rattle.moves.specs.Moves.{Permitted}
 use Rattle.moves.specs.inner.Runs.{Stuck}
@@ -8,7 +8,6 @@ use Rattle.routes.specs.Crossing.{Crossing, steps}
 use Rattle.routes.specs.Moves.{system}
 use Rattle.judge_one_move.specs.inner.Standing.{Standing}
 use Rattle.judge_running.specs.inner.Rounds.{InsideSet}
-use Rattle.judge_all_out.specs.declared.Turn.{Turn}
 
 module _ (X : Crossing) where
   -- the carts stand at `at` after permitted moves, and `left` has for each zone the carts that have left it
@@ -30,10 +29,8 @@ module _ (X : Crossing) where
     pub further : sum old < sum at
     pub held_or_out : ¬ (Permitted (system X) at c)
 
-  -- every cart that was not out in `old` has been asked in turn: it is told which are not out now, and no move is left where none has moved
-  pub record Turned (old at left : List ℕ) (turn : Turn) : Type 0 where
-    pub have_moved : HaveMoved at left
-    pub inside_is : InsideSet X at turn.inside
-    pub no_less : sum old ≤ sum at
-    pub further : turn.moved ≡ true → sum old < sum at
-    pub none_left : turn.moved ≡ false → Stuck (system X) at
+  -- every cart of `inside`, which were not out in `old`, has been asked in turn: it is told which are not out now, or that none has moved,
+  -- and then no move is left
+  abbrev pub Turned : List ℕ → List ℕ → List ℕ → ℕ → Option ℕ → Type 0
+  Turned old at left inside None = HaveMoved at left × InsideSet X at inside × Stuck (system X) at
+  Turned old at left inside (Some still) = HaveMoved at left × InsideSet X at still × (sum old < sum at)

@@ -1,5 +1,4 @@
 -- The loop keeps the largest of the carts before c.
-use Prim.Native.Nat.{◌-◌, ◌≤◌}
 use mathlib.Core.Path.{◌≡◌}
 use Rattle.times.specs.Times.{largest}
 use Rattle.sheet_table.specs.inner.Parts.{steps, passing}
@@ -7,7 +6,4 @@ use Rattle.judge_finish.specs.inner.Finish.{last_leaving}
 use Rattle.judge_finish.proofs.finish_of.Given as goal
 
 abbrev pub invariant-loop-c : goal.invariant-loop-c
-invariant-loop-c l = (l.c ≤ 16) × (l.time ≡ largest (last_leaving (steps l.sheet) (passing l.sheet) l.enter) l.c)
-
-abbrev pub decreases-loop-c : goal.decreases-loop-c
-decreases-loop-c l = 16 - l.c
+invariant-loop-c l = l.time ≡ largest (last_leaving (steps l.sheet) (passing l.sheet) l.enter) l.c

@@ -5,8 +5,7 @@ use Rattle.judge_running.proofs.Turns.{Settling}
 use Rattle.judge_running.proofs.settle.Given as goal
 
 abbrev pub invariant-loop-going : goal.invariant-loop-going
-invariant-loop-going l = Settling (crossing_of l.sheet l.ahead) (given_of l.sheet)
-    l.at l.left l.leave l.enter l.order l.made l.going
+invariant-loop-going l = Settling (crossing_of l.sheet l.ahead) (given_of l.sheet) l.run l.going
 
 abbrev pub decreases-loop-going : goal.decreases-loop-going
-decreases-loop-going l = 144 - l.made + min 1 l.going
+decreases-loop-going l = 144 - l.run.made + min 1 l.going

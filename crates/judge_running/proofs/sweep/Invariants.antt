@@ -6,8 +6,7 @@ use Rattle.judge_running.proofs.Turns.{Sweeping}
 use Rattle.judge_running.proofs.sweep.Given as goal
 
 abbrev pub invariant-loop-turn : goal.invariant-loop-turn
-invariant-loop-turn l = Sweeping
-    (crossing_of l.sheet l.ahead) (given_of l.sheet) l.at l.left l.leave l.enter l.order l.before l.made l.turn l.still
+invariant-loop-turn l = Sweeping (crossing_of l.sheet l.ahead) (given_of l.sheet) l.initial.run l.run l.turn l.still
 
 abbrev pub decreases-loop-turn : goal.decreases-loop-turn
 decreases-loop-turn l = 16 - count_trailing_zeros 16 l.turn

@@ -4,12 +4,14 @@ use Rattle.sets.specs.inner.Member.{has}
 use Rattle.sets.specs.Counting.{set_below}
 use Rattle.moves.specs.System.{pos, start, sum}
 use Rattle.moves.specs.Moves.{NotOut, Permitted}
-use Rattle.moves.specs.Runs.{after, Run}
+use Rattle.moves.specs.Runs as moves
+use Rattle.moves.specs.Runs.{after}
 use Rattle.moves.specs.inner.Runs.{Stuck}
 use Rattle.routes.specs.Crossing.{Crossing, steps}
 use Rattle.routes.specs.Lanes.{is_front, lane_holds}
 use Rattle.routes.specs.Moves.{system}
 use Rattle.times.specs.Times.{Given}
+use Rattle.judge_one_move.specs.declared.Run.{Run}
 use Rattle.judge_one_move.specs.inner.Running.{Running}
 
 -- the set of those of the first n carts that have steps
@@ -37,40 +39,40 @@ module _ (X : Crossing) where
   Frees old c freed = (d : ℕ) → (has freed d ≡ true) ↔ ((pos old c ≡ 0) × (is_front X c d ≡ true))
 
 module _ (X : Crossing) (G : Given) where
-  -- the carts are under way after `made` moves, and the first `made` entries of `order` are the carts that made them, first to last
-  pub record Underway (at left leave enter order : List ℕ) (made : ℕ) : Type 0 where
-    pub running : Running X G at left leave enter
-    pub counted : made ≡ sum at
-    pub order_144 : length order ≡ 144
-    pub is_run : Run (system X) (start (system X)) (take made order)
-    pub run_ends : after (start (system X)) (take made order) ≡ at
+  -- the carts of a run are under way by its moves, and the first entries of its order are the carts that made them, first to last
+  pub record Underway (run : Run) : Type 0 where
+    pub running : Running X G run.at run.left run.leave run.enter
+    pub counted : run.made ≡ sum run.at
+    pub order_144 : length run.order ≡ 144
+    pub is_run : moves.Run (system X) (start (system X)) (take run.made run.order)
+    pub run_ends : after (start (system X)) (take run.made run.order) ≡ run.at
 
-  -- cart c alone has moved on from `old`, where `before` moves were made; now `made` are
-  pub record Onward (old at left leave enter order : List ℕ) (c before made : ℕ) : Type 0 where
-    pub underway : Underway at left leave enter order made
-    pub no_fewer : before ≤ made
-    pub none_made : made ≡ before → at ≡ old
-    pub others : (d : ℕ) → ¬ (d ≡ c) → pos at d ≡ pos old d
+  -- cart c alone has moved on from where `old` had come
+  pub record Onward (old run : Run) (c : ℕ) : Type 0 where
+    pub underway : Underway run
+    pub no_fewer : old.made ≤ run.made
+    pub none_made : run.made ≡ old.made → run.at ≡ old.at
+    pub others : (d : ℕ) → ¬ (d ≡ c) → pos run.at d ≡ pos old.at d
 
   -- cart c has started, by its first move if it stood in its lane; `freed` is who was held behind it
-  pub record Started (old at left leave enter order : List ℕ) (c before made freed : ℕ) : Type 0 where
-    pub onward : Onward old at left leave enter order c before made
-    pub started : 0 < pos at c
-    pub within : pos at c ≤ steps X c
-    pub frees : Frees X old c freed
+  pub record Started (old run : Run) (c freed : ℕ) : Type 0 where
+    pub onward : Onward old run c
+    pub started : 0 < pos run.at c
+    pub within : pos run.at c ≤ steps X c
+    pub frees : Frees X old.at c freed
     pub behind : (d : ℕ) → has freed d ≡ true → c < d
 
   -- cart c, which has started, has moved on as far as it may go, and out or not
-  pub record Advanced (old at left leave enter order : List ℕ) (c before made : ℕ) (out : Bool) : Type 0 where
-    pub onward : Onward old at left leave enter order c before made
-    pub started : 0 < pos at c
-    pub held_or_out : ¬ (Permitted (system X) at c)
-    pub is_out : out ≡ true → steps X c < pos at c
-    pub not_out : out ≡ false → pos at c ≤ steps X c
+  pub record Advanced (old run : Run) (c : ℕ) (out : Bool) : Type 0 where
+    pub onward : Onward old run c
+    pub started : 0 < pos run.at c
+    pub held_or_out : ¬ (Permitted (system X) run.at c)
+    pub is_out : out ≡ true → steps X c < pos run.at c
+    pub not_out : out ≡ false → pos run.at c ≤ steps X c
 
-  -- every cart that was asked has moved on in turn, where `before` moves were made; now `made` are
-  pub record Swept (at left leave enter order : List ℕ) (before made going : ℕ) : Type 0 where
-    pub underway : Underway at left leave enter order made
-    pub no_fewer : before ≤ made
-    pub some_made : 0 < going → before < made
-    pub going_is : Going X at going
+  -- every cart that was asked has moved on in turn from where `old` had come; `going` are asked in the next turn
+  pub record Swept (old run : Run) (going : ℕ) : Type 0 where
+    pub underway : Underway run
+    pub no_fewer : old.made ≤ run.made
+    pub some_made : 0 < going → old.made < run.made
+    pub going_is : Going X run.at going

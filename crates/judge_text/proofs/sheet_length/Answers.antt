@@ -1,17 +1,17 @@
--- By what the field of two bytes answers, and by how many bytes there are.
-use Rattle.std.proofs.Common.{sym, ◌∙◌, le_refl}
-use borrow.Author.Tests.{le-leb, lt-leb}
+-- By what the field of two bytes answers; the lesser of two numbers is the one that a test picks.
+use Rattle.std.proofs.Common.{sym, ◌≡◌, ◌∙◌, ℕ, leb, min, le_refl, rules, arith}
+use Rattle.std.proofs.lemmas.Bool.Decides.{leb_tells}
+use Rattle.words.specs.Lists.{pick}
 use Rattle.judge_text.specs.inner.Input.{sheet_length}
 use Rattle.judge_text.proofs.sheet_length.Goals as goal
+
+min_pick : (a b : ℕ) → min a b ≡ pick (leb b a) b a
+min_pick a b = grind (arith, leb_tells)
 
 pub returns-in_default : goal.returns-in_default
 unfolding sheet_length
 returns-in_default c = (rw (← c.outside.ensures, sym c.two_bytes.ensures ∙ c.in_default.is), le_refl _)
 
-pub returns-then-input-n : goal.returns-then-input-n
-unfolding sheet_length
-returns-then-input-n c = (rw (← c.outside.ensures, sym c.in-Value.ensures, lt-leb _ _ c.if-input-n.true), le_refl _)
-
 pub returns : goal.returns
 unfolding sheet_length
-returns c = (rw (← c.outside.ensures, sym c.in-Value.ensures, le-leb _ _ c.if-input-n.false), c.if-input-n.false)
+returns c = (rw (← c.outside.ensures, sym c.in-Value.ensures, c.min.ensures, min_pick _ _), search rules)

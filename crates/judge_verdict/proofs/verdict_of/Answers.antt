@@ -3,4 +3,4 @@ use Rattle.judge_verdict.proofs.Stuck.{runs}
 use Rattle.judge_verdict.proofs.verdict_of.Goals as goal
 
 pub returns : goal.returns
-returns c = runs _ _ _ _ _ _ _ _ _ _ c.settle-settled.ensures _ c.lowest_stuck-stuck.ensures
+returns c = runs _ _ _ _ _ _ c.settle.ensures _ c.lowest_stuck.ensures

@@ -1,18 +1,8 @@
-use mathlib.Core.Path.{◌∙◌}
-use native.Mathlib.Omega.{arith}
-use Rattle.words.proofs.Filling.{table_none, table_next, table_all}
+use Rattle.std.proofs.Common.{rules}
 use Rattle.plan_reader.specs.inner.Scan.{ahead_of}
+use Rattle.plan_reader.proofs.Made.{made_table}
 use Rattle.plan_reader.proofs.ahead_of.Goals as goal
-
-pub loop-x-init : goal.loop-x-init
-loop-x-init c = (omega arith, c.requires.1 ∙ table_none 128 _)
-
-pub ahead_at-requires : goal.ahead_at-requires
-ahead_at-requires c = (omega arith, c.requires.0)
-
-pub loop-x-preserved : goal.loop-x-preserved
-loop-x-preserved c = (omega arith, table_next 128 _ _ _ _ (omega arith) c.ahead_at.ensures c.loop-x.invariant.1)
 
 pub returns : goal.returns
 unfolding ahead_of
-returns c = c.loop-x.invariant.1 ∙ table_all 128 _ _ (omega arith)
+returns c = made_table c.from_fn.ensures.items _ (λ i y q h call. search rules)

@@ -1,81 +1,57 @@
--- Each way out is what is left of the pass where the scan of the lists is left, by the tests that follow it.
-use mathlib.Core.Path.{refl}
-use mathlib.Core.Logic.{inl, inr}
+-- How the scan is left, and the tests after it, say how the pass ends.
+use mathlib.Core.Path.{refl, ap}
 use native.Mathlib.Omega.{arith}
-use borrow.Author.Tests.{eq-eqb, ne_eqb}
+use lib.Dec.{lit<}
+use Rattle.std.proofs.lemmas.Result.{err_from_is_err_and}
+use Rattle.plan.specs.declared.Orders.{Orders}
 use Rattle.plan_lists.proofs.VisitLaws.{visits_sets}
-use Rattle.plan_reader.specs.inner.Scan.{finish}
-use Rattle.plan_reader.proofs.LeftLaws.{lists_refused, lists_read}
+use Rattle.plan_reader.proofs.LeftLaws.{lists_refused, lists_long, lists_late, lists_read}
 use Rattle.plan_reader.proofs.read_lists.Goals as goal
 
-pub step_counts-steps-requires : goal.step_counts-steps-requires
-step_counts-steps-requires c = record { count = c.requires.0.steps_16; range = λ i. omega (arith, c.requires.0.routes.few i) }
+pub step_counts-requires : goal.step_counts-requires
+step_counts-requires c = record { count = c.requires.0.steps_16; range = λ i. omega (arith, c.requires.0.routes.few i) }
 
 pub who_visits-who-requires : goal.who_visits-who-requires
-who_visits-who-requires c = rw c.step_counts-steps.ensures c.requires.0.routes
+who_visits-who-requires c = rw c.step_counts.ensures c.requires.0.routes
 
 pub may_lead-lead-requires : goal.may_lead-lead-requires
 may_lead-lead-requires c = c.requires.0.lanes
 
-pub scan_lists-scan-requires : goal.scan_lists-scan-requires
-scan_lists-scan-requires c = (
+pub scan_lists-requires : goal.scan_lists-requires
+scan_lists-requires c = (
   c.requires.0.zones_most,
-  rw
-      c.who_visits-who.ensures (visits_sets _ _),
-  (
-    c.requires.1.0,
-    c.requires.1.1,
-    refl,
-  ),
+  rw c.who_visits-who.ensures (visits_sets _ _),
+  (ap (λ (o : Orders). o.count) c.requires.1, ap (λ (o : Orders). o.list) c.requires.1, refl),
 )
 
-pub returns-then-outcome-ne0 : goal.returns-then-outcome-ne0
-returns-then-outcome-ne0 c = inr (
-  omega (arith, c.if-outcome-ne0.true),
-  lists_refused _ _ _ _ _ _ _ _ _ _ _ _
-      (rw c.step_counts-steps.ensures at
-      c.who_visits-who.ensures)
-      c.may_lead-lead.ensures c.scan_lists-scan.ensures
-      c.if-outcome-ne0.true,
-)
+pub returns-in_err-scan : goal.returns-in_err-scan
+returns-in_err-scan c =
+    let p = err_from_is_err_and c.from_residual.result c.from_residual.ensures.1 in
+    rw (p.1, p.2) (
+      c.in_err-scan.ensures.1.0,
+      lists_refused _ _ _ _ _ _ _ _
+          (rw c.step_counts.ensures at c.who_visits-who.ensures) c.may_lead-lead.ensures _ c.in_err-scan.ensures.1.1,
+    )
 
 pub returns-then-scan-p : goal.returns-then-scan-p
-unfolding finish
-returns-then-scan-p c = inr (
-  rw c.refused.ensures (omega arith),
-  rw (
-    c.refused.ensures,
-    lists_read _ _ _ _ _ _ _ _ _ _ _ _
-        (rw c.step_counts-steps.ensures at c.who_visits-who.ensures) c.may_lead-lead.ensures c.scan_lists-scan.ensures c.if-outcome-ne0.false,
-    ne_eqb _ _ c.if-scan-p.true,
-  ),
+returns-then-scan-p c = rw c.refused.ensures (
+  lit< tt,
+  lists_long _ _ _ _ _ _ _ _
+      (rw c.step_counts.ensures at c.who_visits-who.ensures) c.may_lead-lead.ensures _
+      c.scan_lists.new.orders _ c.in_ok-scan.ensures.1 c.if-scan-p.true,
 )
 
-pub returns-then-scan-ne0 : goal.returns-then-scan-ne0
-unfolding finish
-returns-then-scan-ne0 c = inr (
-  rw c.refused-then-scan-ne0.ensures (omega arith),
-  rw (
-    c.refused-then-scan-ne0.ensures,
-    lists_read _ _ _ _ _ _ _ _ _ _ _ _
-        (rw c.step_counts-steps.ensures at c.who_visits-who.ensures) c.may_lead-lead.ensures c.scan_lists-scan.ensures c.if-outcome-ne0.false,
-    eq-eqb _ _ c.if-scan-p.false,
-    ne_eqb _ _ c.if-scan-ne0.true,
-  ),
+pub returns-in-Some : goal.returns-in-Some
+returns-in-Some c = rw c.refused-in-Some.ensures (
+  lit< tt,
+  lists_late _ _ _ _ _ _ _ _
+      (rw c.step_counts.ensures at c.who_visits-who.ensures) c.may_lead-lead.ensures _
+      c.scan_lists.new.orders _ c.in_ok-scan.ensures.1 c.if-scan-p.false _ c.in-Some.is,
 )
 
-pub ahead_of-requires : goal.ahead_of-requires
-ahead_of-requires c = (c.requires.0.routes, c.requires.1.2)
+pub ahead_of-orders-requires : goal.ahead_of-orders-requires
+ahead_of-orders-requires c = c.requires.0.routes
 
 pub returns : goal.returns
-unfolding finish
-returns c = inl (
-  c.done.ensures,
-  rw (
-    lists_read _ _ _ _ _ _ _ _ _ _ _ _ (rw
-        c.step_counts-steps.ensures at c.who_visits-who.ensures) c.may_lead-lead.ensures c.scan_lists-scan.ensures c.if-outcome-ne0.false,
-    eq-eqb _ _ c.if-scan-p.false,
-    eq-eqb _ _ c.if-scan-ne0.false,
-    c.ahead_of.ensures,
-  ),
-)
+returns c = lists_read _ _ _ _ _ _ _ _ (rw c.step_counts.ensures at c.who_visits-who.ensures) c.may_lead-lead.ensures _
+    c.scan_lists.new.orders _ c.in_ok-scan.ensures.1 c.if-scan-p.false c.in_default.is _ c.ahead_of-orders.ensures

@@ -1,17 +1,19 @@
 -- Reading a plan as one pass over the bytes: what the reader's inner functions are held to. Each definition is the rest of the work from a cursor on.
 -- proofs/Agrees.antt shows that the whole pass is the table's answer, `read_plan`.
-use Rattle.std.specs.Prelude.{ℕ, ◌+◌, ◌*◌, ◌/◌, ◌%◌, ◌≤◌, ◌≡◌, List, length, get_or, ltb, eqb}
+use Rattle.std.specs.Prelude.{ℕ, ◌+◌, ◌*◌, ◌/◌, ◌%◌, ◌≤◌, ◌≡◌, List, length, get_or, ltb, eqb, Option, Some, None, Result, Ok, Err}
 use Rattle.words.specs.Lists.{pick, entries}
 use Rattle.words.specs.Checks.{refused}
-use Rattle.words.specs.inner.Checks.{Left}
+use Rattle.words.specs.inner.Checks.{Leaves}
 use Rattle.words.specs.declared.Outcome.{Outcome}
 use Rattle.sheet.specs.declared.Sheet.{Sheet}
 use Rattle.opening.specs.inner.Opening.{opening_at, on_opening}
-use Rattle.plan.specs.Reading.{no_orders, plan_refused, plan_done, read_plan}
+use Rattle.sheet_filling.specs.inner.Filled.{sheet_in}
+use Rattle.sheet_reader.specs.declared.Counts.{Counts}
+use Rattle.plan.specs.Reading.{plan_refused, plan_done, read_plan}
 use Rattle.plan.specs.declared.Orders.{Orders}
 use Rattle.plan.specs.declared.PlanRead.{PlanRead}
 use Rattle.plan_lists.specs.inner.Sets.{Routes, Lanes, who_visits, may_lead}
-use Rattle.plan_lists.specs.inner.Scan.{Lists, no_lists, Scanned, Read, Broken, lists_from}
+use Rattle.plan_lists.specs.inner.Scan.{Lists, no_lists, Scanned, lists_from}
 
 -- the carts ahead at x, which is 8 * i + j for step j of cart i: those ahead of it in the list of the step's zone, 0 if there is no such step
 abbrev pub ahead_at : List ℕ → List ℕ → List ℕ → ℕ → ℕ
@@ -21,30 +23,26 @@ unfoldable pub ahead_of : List ℕ → List ℕ → List ℕ → List ℕ
 ahead_of steps zone before = entries 128 0 (ahead_at steps zone before)
 
 -- how the pass ends: with the orders, or with a refusal
-pub data PlanScanned : Type 0 where
-  Done : Orders → PlanScanned
-  Refuses : Outcome → PlanScanned
+abbrev pub PlanScanned : Type 0
+PlanScanned = Result Orders Outcome
 
 -- what that says of the plan for a sheet
 abbrev pub plan_of : Sheet → PlanScanned → PlanRead
-plan_of sheet (Done orders) = plan_done sheet orders
-plan_of sheet (Refuses outcome) = plan_refused outcome
+plan_of sheet (Ok orders) = plan_done sheet orders
+plan_of sheet (Err outcome) = plan_refused outcome
 
 -- the orders in three tables
 abbrev pub orders_in : List ℕ → List ℕ → List ℕ → Orders
 orders_in count list ahead = record { count = count; list = list; ahead = ahead }
 
--- how the reader is left, where all of the work is `whole`: with the orders in the tables, or with a refusal
-abbrev pub ReadInto : PlanScanned → Outcome → List ℕ → List ℕ → List ℕ → Type 0
-ReadInto whole r count list ahead = Left Refuses whole (Done (orders_in count list ahead)) r
+-- how the reader is left, where all of the work is `whole`: with the orders read, or with a refusal
+abbrev pub ReadInto : PlanScanned → Orders → Result (Unit {0}) Outcome → Type 0
+ReadInto whole orders left = Leaves Err whole (λ _. Ok orders) left
 
--- how reading both a sheet and a plan is left: with the sheet and the orders, or with the refusal
-abbrev pub BothRead : List ℕ → List ℕ → Sheet → Orders → Outcome → Type 0
-BothRead s p sheet orders outcome = Left plan_refused (read_plan s p) (plan_done sheet orders) outcome
-
--- tables with no orders yet
-abbrev pub Blank : List ℕ → List ℕ → List ℕ → Type 0
-Blank count list ahead = (count ≡ no_orders.count) × (list ≡ no_orders.list) × (ahead ≡ no_orders.ahead)
+-- how reading both a sheet and a plan is left: with the sheet's table and the orders, or with the refusal
+abbrev pub BothRead : List ℕ → List ℕ → List ℕ → Orders → Result Counts Outcome → Type 0
+BothRead s p table orders left =
+    Leaves plan_refused (read_plan s p) (λ counts. plan_done (sheet_in counts.zones counts.carts table) orders) left
 
 -- zones, routes and lanes that a plan can be read for: those of every valid sheet
 pub record TablesFit (zones : ℕ) (steps zone lane : List ℕ) : Type 0 where
@@ -59,15 +57,18 @@ orders_of steps zone l = orders_in l.count l.list (ahead_of steps zone l.before)
 
 -- how the scan of the lists ends: with the lists, to go on with, or with the refusal
 abbrev pub on_scanned : Scanned → (Lists → ℕ → PlanScanned) → PlanScanned
-on_scanned (Read l at) go = go l at
-on_scanned (Broken outcome) go = Refuses outcome
+on_scanned (Ok (l, at)) go = go l at
+on_scanned (Err outcome) go = Err outcome
+
+-- the orders, unless a byte is late: 21
+abbrev pub unless_late : Option ℕ → Orders → PlanScanned
+unless_late (Some place) orders = Err (refused 21 place)
+unless_late None orders = Ok orders
 
 -- after all lists: 20, then 21
 unfoldable pub finish : List ℕ → List ℕ → List ℕ → Lists → ℕ → PlanScanned
 finish p steps zone l at =
-    pick (eqb at (length p))
-    (pick (eqb l.late 0) (Done (orders_of steps zone l)) (Refuses (refused 21 l.late)))
-    (Refuses (refused 20 at))
+    pick (eqb at (length p)) (unless_late l.late (orders_of steps zone l)) (Err (refused 20 at))
 
 module _ (p : List ℕ) (zones : ℕ) (steps zone lane : List ℕ) where
   -- the lists, and what follows them
@@ -76,7 +77,7 @@ module _ (p : List ℕ) (zones : ℕ) (steps zone lane : List ℕ) where
 
   -- the whole pass: version, length, zone count, lists
   unfoldable pub scan : PlanScanned
-  scan = on_opening Refuses (opening_at p 15 zones zones) λ n c. from_lists c.at
+  scan = on_opening Err (opening_at p 15 zones zones) λ n c. from_lists c.at
 
 -- the whole pass over a plan for a sheet
 abbrev pub sheet_scan : List ℕ → Sheet → PlanScanned

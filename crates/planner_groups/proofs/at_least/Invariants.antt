@@ -1,5 +1,4 @@
 -- The carts looked at so far are in the set where their number is enough.
-use Prim.Native.Nat.{◌-◌, ◌≤◌}
 use mathlib.Core.Path.{◌≡◌}
 use lib.ListN.{get_or}
 use lib.Dec.{leb}
@@ -7,7 +6,4 @@ use Rattle.sets.specs.Counting.{set_below}
 use Rattle.planner_groups.proofs.at_least.Given as goal
 
 abbrev pub invariant-loop-c : goal.invariant-loop-c
-invariant-loop-c l = (l.c ≤ 16) × (l.set ≡ set_below l.c (λ d. leb l.least (get_or l.ranks d 0)))
-
-abbrev pub decreases-loop-c : goal.decreases-loop-c
-decreases-loop-c l = 16 - l.c
+invariant-loop-c l = (l.set ≡ set_below l.c (λ d. leb l.least (get_or l.ranks d 0)))

@@ -12,14 +12,11 @@ use Rattle.planner_groups.specs.inner.Pairs.{HasPairs}
 abbrev pub visiting_at : List ℕ → List ℕ → ℕ → ℕ
 visiting_at sheet visitors x = pick (ltb (x % 8) (get_or (parts.steps sheet) (x / 8) 0)) (get_or visitors (get_or (parts.zone sheet) x 0) 0) 0
 
--- what is lent: the sheet, with routes and lanes in range, who visits each zone, and three tables of 128
-pub record Lent (sheet visitors ahead behind pairs : List ℕ) : Type 0 where
+-- what is lent: the sheet, with routes and lanes in range, and who visits each zone
+pub record Lent (sheet visitors : List ℕ) : Type 0 where
   pub routes : Routes (parts.steps sheet) (parts.zone sheet)
   pub lane_most : AtMost 15 (parts.lane sheet)
   pub visitors_are : visitors ≡ who_visits (parts.steps sheet) (parts.zone sheet)
-  pub ahead_128 : length ahead ≡ 128
-  pub behind_128 : length behind ≡ 128
-  pub pairs_128 : length pairs ≡ 128
 
 -- the tables hold the start
 pub record Starts (sheet ahead behind pairs : List ℕ) : Type 0 where

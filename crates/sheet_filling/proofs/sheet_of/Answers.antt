@@ -1,41 +1,30 @@
--- A valid sheet's parts are in range, so each is copied whole.
-use Rattle.sheet_filling.proofs.Ranges.{follow_entries, cross_entries, lane_entries, arrival_entries, steps_entries, zone_entries}
-use Rattle.sheet_filling.proofs.Ranges.{passing_entries, travel_entries}
-use lib.Dec.{lit≤}
+-- A valid sheet's entries fit their fields, so each closure gives the entries of a part.
+use lib.Dec.{lit<}
+use Rattle.std.proofs.Common.{rules}
+use Rattle.sheet_filling.proofs.Ranges.{steps_entries, zone_entries, passing_entries, travel_entries}
+use Rattle.sheet_filling.proofs.Calls.{calls_taken, calls_give}
 use Rattle.sheet_filling.proofs.sheet_of.Goals as goal
-
-pub gaps_of-requires : goal.gaps_of-requires
-gaps_of-requires c = (lit≤ tt, follow_entries _ c.requires)
-
-pub gaps_of-requires-2 : goal.gaps_of-requires-2
-gaps_of-requires-2 c = (lit≤ tt, cross_entries _ c.requires)
-
-pub bytes_of-requires : goal.bytes_of-requires
-bytes_of-requires c = (lit≤ tt, lane_entries _ c.requires)
-
-pub arrivals_of-requires : goal.arrivals_of-requires
-arrivals_of-requires c = (lit≤ tt, arrival_entries _ c.requires)
 
 pub step_counts-requires : goal.step_counts-requires
 step_counts-requires c = steps_entries _ c.requires
 
-pub zones_of-requires : goal.zones_of-requires
-zones_of-requires c = (lit≤ tt, zone_entries _ c.requires)
+pub from_fn-requires-5 : goal.from_fn-requires-5
+from_fn-requires-5 c = (lit< tt, calls_taken _ _ _ (λ i r q k. search rules) (λ i l. let e = (zone_entries _ c.requires).range i in search rules))
 
-pub times_of-requires : goal.times_of-requires
-times_of-requires c = (lit≤ tt, passing_entries _ c.requires)
+pub from_fn-requires-6 : goal.from_fn-requires-6
+from_fn-requires-6 c = (lit< tt, calls_taken _ _ _ (λ i r q k. search rules) (λ i l. let e = (passing_entries _ c.requires).range i in search rules))
 
-pub times_of-requires-2 : goal.times_of-requires-2
-times_of-requires-2 c = (lit≤ tt, travel_entries _ c.requires)
+pub from_fn-requires-7 : goal.from_fn-requires-7
+from_fn-requires-7 c = (lit< tt, calls_taken _ _ _ (λ i r q k. search rules) (λ i l. let e = (travel_entries _ c.requires).range i in search rules))
 
 pub returns : goal.returns
 returns c = rw (
-  c.gaps_of.ensures,
-  c.gaps_of-2.ensures,
-  c.bytes_of.ensures,
-  c.arrivals_of.ensures,
-  c.before.before.before.step_counts.ensures,
-  c.zones_of.ensures,
-  c.times_of.ensures,
-  c.times_of-2.ensures,
+  calls_give _ _ _ _ _ (λ i r q l k. search rules) c.requires.shaped.follow_24 c.from_fn.ensures.items,
+  calls_give _ _ _ _ _ (λ i r q l k. search rules) c.requires.shaped.cross_24 c.from_fn-2.ensures.items,
+  calls_give _ _ _ _ _ (λ i r q l k. search rules) c.requires.shaped.lane_16 c.from_fn-3.ensures.items,
+  calls_give _ _ _ _ _ (λ i r q l k. search rules) c.requires.shaped.arrival_16 c.from_fn-4.ensures.items,
+  c.step_counts.ensures,
+  calls_give _ _ _ _ _ (λ i r q l k. search rules) c.requires.shaped.zone_128 c.from_fn-5.ensures.items,
+  calls_give _ _ _ _ _ (λ i r q l k. search rules) c.requires.shaped.passing_128 c.from_fn-6.ensures.items,
+  calls_give _ _ _ _ _ (λ i r q l k. search rules) c.requires.shaped.travel_128 c.from_fn-7.ensures.items,
 )

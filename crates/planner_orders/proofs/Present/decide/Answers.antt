@@ -1,6 +1,6 @@
 -- Four sets change, each by one cart.
 use Rattle.planner_orders.proofs.Deciding.{decides}
-use Rattle.planner_orders.proofs.decide.Goals as goal
+use Rattle.planner_orders.proofs.Present.decide.Goals as goal
 
 pub returns : goal.returns
 returns c = decides _ _ _ _ _ _ _ _ _ c.with.ensures

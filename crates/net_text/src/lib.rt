@@ -193,7 +193,6 @@ impl Writer<'_> {
     fn put_net(&mut self, net: &Net)
         requires { self.old.lines ≡ 0 }
         ensures few { self.new.lines ≤ most_lines }
-        ensures same_room { self.new.room.ghost_name ≡ self.old.room.ghost_name }
         ensures wrote { Wrote (net_lines (crossing_in net.now)) self.old self.new }
     {
         for c in 0..16 {

@@ -11,4 +11,4 @@ returns c = let a = c.args in
     let wrote = rw (c.of.ensures.sheet, c.of.ensures.ahead) at c.put_net.ensures.wrote in
     let written : c.put_net.new.self.room.now ≡ with_text (net_text (crossing_of a.sheet.now a.ahead.now)) a.room.now
     = wrote_all (crossing_of a.sheet.now a.ahead.now) refl c.requires.1 wrote in
-    search (rules, written)
+    search (rules, written, c.put_net.ensures.wrote.same_room)

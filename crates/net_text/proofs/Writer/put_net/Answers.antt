@@ -26,6 +26,5 @@ returns c = let net = c.args.net.now in
     let wrote = c.loop-c.invariant in
     record {
       few = omega (arith, c.requires, wrote.counted);
-      same_room = wrote.same_room;
       wrote = rw (net_is net.sheet.now net.ahead.now) (rw all at wrote);
     }

@@ -21,6 +21,10 @@ use Rattle.crossing.proofs.Tables.{steps_is}
 use Rattle.crossing.proofs.Fronts.{fronts_are, fronts_absent}
 use Rattle.judge_entering.specs.inner.Lanes.{on_lane, mates_of, lanes_of, front_at}
 use Rattle.sheet_table.specs.declared.Table.{Table}
+use Rattle.judge_entering.specs.inner.Times.{AtMost}
+
+pub lane_16 : (sheet : Table) (c : ℕ) → AtMost 15 (parts.lane sheet) → get_or (parts.lane sheet) c 0 < 16
+lane_16 sheet c most = omega (arith, most c)
 
 module _ (sheet : Table) where
   abbrev pub lane_of : ℕ → ℕ

@@ -25,8 +25,9 @@ use Rattle.moving_asking.specs.inner.Tables.{WantsZone, held_by, no_move}
 use Rattle.moving_asking.specs.inner.Held.{tested_of, Askable, TestedIn, AskedIn}
 use Rattle.moving_asking.proofs.Tested.{tested_below, tested_refused, passed_in}
 use Rattle.moving_asking.proofs.Request as request
+use Rattle.sheet_table.specs.declared.Table.{Table}
 
-module _ (table ahead : List ℕ) (carts : ℕ) (lent : Record) (cart : ℕ) where
+module _ (table : Table) (ahead : List ℕ) (carts : ℕ) (lent : Record) (cart : ℕ) where
   -- the test's refusal is the request's
   pub untested_in : (outcome : Outcome) → TestedIn table ahead carts lent cart (Err outcome) → AskedIn table ahead carts lent cart (no_move outcome 0)
   untested_in outcome says zones count list v w =

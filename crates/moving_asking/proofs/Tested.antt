@@ -17,6 +17,7 @@ use Rattle.sheet_filling.specs.inner.Filled.{sheet_in}
 use Rattle.moving_record.specs.declared.Record.{Record}
 use Rattle.moving_asking.specs.Asking.{record_checks}
 use Rattle.moving_asking.specs.inner.Held.{tested_of, TestedIn}
+use Rattle.sheet_table.specs.declared.Table.{Table}
 
 module _ (sheet : Sheet) (orders : Orders) (lent : Record) (cart : ℕ) where
   pub tested_passes : (tested_of sheet orders lent cart).number ≡ 0 → AllPass (record_checks sheet orders lent cart)
@@ -39,14 +40,14 @@ module _ (sheet : Sheet) (orders : Orders) (lent : Record) (cart : ℕ) where
       ∙ ap refuse (sym told)
 
 -- the test's own ways out
-pub refused_in : (table ahead : List ℕ) (carts : ℕ) (lent : Record) (cart number : ℕ) → 0 < number
+pub refused_in : (table : Table) (ahead : List ℕ) (carts : ℕ) (lent : Record) (cart number : ℕ) → 0 < number
     → ((zones : ℕ) (count list : List ℕ) → Valid (sheet_in zones carts table) → ValidOrders (sheet_in zones carts table) (orders_in count list ahead)
     → tested_of (sheet_in zones carts table) (orders_in count list ahead) lent cart ≡ refused number 0)
     → TestedIn table ahead carts lent cart (Err (refused number 0))
 refused_in table ahead carts lent cart number some says = record { outcome_is = λ zones count list v w. (some, says zones count list v w); standing = tt }
 
 -- and where it tells the carts that have left, the checks pass
-pub passed_in : (table ahead : List ℕ) (carts : ℕ) (lent : Record) (cart : ℕ) (left : List ℕ) → TestedIn table ahead carts lent cart (Ok left)
+pub passed_in : (table : Table) (ahead : List ℕ) (carts : ℕ) (lent : Record) (cart : ℕ) (left : List ℕ) → TestedIn table ahead carts lent cart (Ok left)
     → (zones : ℕ) (count list : List ℕ) (v : Valid (sheet_in zones carts table)) (w : ValidOrders (sheet_in zones carts table) (orders_in count list ahead))
     → AllPass (record_checks (sheet_in zones carts table) (orders_in count list ahead) lent cart)
 passed_in table ahead carts lent cart left is zones count list v w =

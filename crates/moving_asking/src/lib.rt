@@ -48,7 +48,7 @@ fn not_gone(sheet: &Table, ahead: &[u16; 128], at: &[u8; 16], left: &[u16; 24], 
     ensures { result ≡ not_gone (zone sheet.now) ahead.now at.now left.now c }
 {
     let x = 8 * c + usize::from(at[c]);
-    let z = sheet_table::zone(sheet, x);
+    let z = sheet.zone(x);
     carts::count(carts::less(ahead[x], left[z]))
 }
 
@@ -90,7 +90,7 @@ pub fn test_cart(
     if m <= cart {
         return Err(refused(24, 0));
     }
-    if sheet_table::steps(sheet, cart) < usize::from(lent.position[cart]) {
+    if sheet.steps(cart) < usize::from(lent.position[cart]) {
         return Err(refused(25, 0));
     }
     Ok(left)
@@ -126,7 +126,7 @@ fn ask_plan(sheet: &Table, ahead: &[u16; 128], m: usize, lent: Record, cart: usi
 pub fn ask(s: &[u8], p: &[u8], lent: Record, cart: usize) -> Asked
     ensures { result ≡ ask s.now p.now lent cart }
 {
-    let mut sheet = [0u32; 480];
+    let mut sheet = Table::blank();
     let mut orders = no_orders();
     match read_tables(s, p, &mut sheet, &mut orders) {
         Ok(read) => ask_plan(&sheet, &orders.ahead, read.carts, lent, cart),

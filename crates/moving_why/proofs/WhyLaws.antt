@@ -28,6 +28,7 @@ use Rattle.moving_asking.proofs.Request.{tested_cart}
 use Rattle.moving_why.specs.Why.{chain_refused, chain_from, why}
 use Rattle.moving_why.specs.inner.Tables.{chain_in, Followable, why_of, PlanIn, WhyIn}
 use Rattle.moving_why.proofs.Links.{free_within, chain_is}
+use Rattle.sheet_table.specs.declared.Table.{Table}
 
 module _ (s p : List ℕ) (lent : Record) (cart : ℕ) where
   refused_is : ((read_plan s p).outcome.number ≡ 0 → ⊥) → chain_refused (read_plan s p).outcome ≡ why s p lent cart
@@ -49,7 +50,7 @@ module _ (s p : List ℕ) (lent : Record) (cart : ℕ) where
   why_read sheet orders is = rw is at read_is refl
 
 -- and of what the test told of the tables
-module _ (table : List ℕ) (orders : Orders) (carts : ℕ) (lent : Record) (cart : ℕ) where
+module _ (table : Table) (orders : Orders) (carts : ℕ) (lent : Record) (cart : ℕ) where
   pub untested_in : (outcome : Outcome) → TestedIn table orders.ahead carts lent cart (Err outcome) → WhyIn table orders carts lent cart (chain_refused outcome)
   untested_in outcome says zones v w =
       let sheet = sheet_in zones carts table in

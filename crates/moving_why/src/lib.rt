@@ -47,7 +47,7 @@ fn wants_out(sheet: &Table, at: &[u8; 16], c: usize) -> u8
     requires { c < 16 }
     ensures { result ≡ bit (last_in (steps sheet.now) at.now c) }
 {
-    u8::from(usize::from(at[c]) == sheet_table::steps(sheet, c))
+    u8::from(usize::from(at[c]) == sheet.steps(c))
 }
 
 // The chain from a cart, where the carts stand and have left zones as the tables say.
@@ -101,7 +101,7 @@ fn why_plan(sheet: &Table, orders: &Orders, m: usize, lent: Record, cart: usize)
 pub fn why(s: &[u8], p: &[u8], lent: Record, cart: usize) -> Chain
     ensures { result ≡ why s.now p.now lent cart }
 {
-    let mut sheet = [0u32; 480];
+    let mut sheet = Table::blank();
     let mut orders = no_orders();
     match read_tables(s, p, &mut sheet, &mut orders) {
         Ok(read) => why_plan(&sheet, &orders, read.carts, lent, cart),

@@ -50,6 +50,7 @@ use Rattle.net_text.specs.Lines.{
   net_lines,
 }
 use Rattle.net_text.specs.inner.Tables.{step_of, lane_in, pair_in, other_in}
+use Rattle.sheet_table.specs.declared.Table.{Table}
 
 -- ---- the step of a cart in a zone
 
@@ -65,10 +66,10 @@ place_none list x n = go (lowest is_here (length list)) (lowest_is is_here (leng
     go (some k) (below, found, _) = absurd (n k below (eqb-true (get_or list k 0) x found))
 
 -- the first j steps of cart d are not in zone z
-abbrev pub NotYet : List ℕ → ℕ → ℕ → ℕ → Type 0
+abbrev pub NotYet : Table → ℕ → ℕ → ℕ → Type 0
 NotYet sheet d z j = (e : ℕ) → e < j → get_or (parts.zone sheet) (8 * d + e) 0 ≢ z
 
-module _ (sheet : List ℕ) (d z : ℕ) where
+module _ (sheet : Table) (d z : ℕ) where
   abbrev route : List ℕ
   route = route_of (parts.steps sheet) (parts.zone sheet) d
 
@@ -100,7 +101,7 @@ module _ (sheet : List ℕ) (d z : ℕ) where
 
 -- ---- another cart, as its test picks it
 
-module _ (sheet : List ℕ) (ahead c p d : ℕ) where
+module _ (sheet : Table) (ahead c p d : ℕ) where
   pub pair_none : has ahead d ≡ false → pair_in sheet ahead c p d ≡ []
   pair_none n = rw n
 
@@ -127,7 +128,7 @@ lane_most front c p d = go (eqb p 0 && option_eq eqb front (Some d))
     go true = omega arith
     go false = omega arith
 
-pub others_most : (sheet : List ℕ) (front : Option ℕ) (ahead c p k : ℕ) → length (each k 0 (other_in sheet front ahead c p)) ≤ 6 * k
+pub others_most : (sheet : Table) (front : Option ℕ) (ahead c p k : ℕ) → length (each k 0 (other_in sheet front ahead c p)) ≤ 6 * k
 unfolding other_in
 others_most sheet front ahead c p k =
     length_each_most k 0 6 (other_in sheet front ahead c p) (λ d _. picked_most (eqb p 0 && option_eq eqb front (Some d)) (has ahead d) c p d _)
@@ -174,7 +175,7 @@ front_test : (f d : ℕ) → option_eq eqb (cart_in_front f) (Some d) ≡ eqb f 
 front_test zero d = sym (eqb-zero-suc d)
 front_test (suc e) d = sym (eqb-suc-suc e d)
 
-module _ (sheet ahead : List ℕ) where
+module _ (sheet : Table) (ahead : List ℕ) where
   abbrev X : Crossing
   X = crossing_of sheet ahead
 

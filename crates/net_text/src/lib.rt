@@ -86,8 +86,8 @@ fn step_in(net: &Net, d: usize, z: usize) -> usize
     requires { d < 16 }
     ensures { (result ≡ step_of net.now.sheet.now d z) × (result < 8) }
 {
-    for j in 0..sheet_table::steps(net.sheet, d) {
-        if sheet_table::zone(net.sheet, 8 * d + j) == z {
+    for j in 0..net.sheet.steps(d) {
+        if net.sheet.zone(8 * d + j) == z {
             return j;
         }
     }
@@ -145,7 +145,7 @@ impl Writer<'_> {
         ensures { Wrote (pair_in net.now.sheet.now ahead c p d) self.old self.new }
     {
         if carts::has(ahead, d) {
-            let z = sheet_table::zone(net.sheet, 8 * c + p);
+            let z = net.sheet.zone(8 * c + p);
             let q = step_in(net, d, z) + 1;
             self.put(TextLine::PlacePair(c, p, d));
             self.put(TextLine::ArcPair(c, p, d, q));
@@ -169,7 +169,7 @@ impl Writer<'_> {
         requires { At (crossing_in net.now) c p × (self.old.lines + 100 ≤ most_lines) }
         ensures { Wrote (position_lines (crossing_in net.now) c p) self.old self.new }
     {
-        let steps = sheet_table::steps(net.sheet, c);
+        let steps = net.sheet.steps(c);
         self.put_own(steps, c, p);
         if p < steps {
             self.put_others(net, front(&net.lanes, c), net.ahead[8 * c + p], c, p);
@@ -181,7 +181,7 @@ impl Writer<'_> {
         requires { (c < 16) × (self.old.lines + 1000 ≤ most_lines) }
         ensures { Wrote (cart_lines (crossing_in net.now) c) self.old self.new }
     {
-        let steps = sheet_table::steps(net.sheet, c);
+        let steps = net.sheet.steps(c);
         if 0 < steps {
             for p in 0..steps + 2 {
                 self.put_position(net, c, p);

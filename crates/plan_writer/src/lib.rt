@@ -57,7 +57,7 @@ fn written_again(s: &[u8], p: &[u8], room: &mut [u8]) -> Result<PlanWritten, Out
     ensures answer { written_as result ≡ write_again s.now p.now (length room.old) }
     ensures holds { room.new ≡ room_after s.now p.now room.old }
 {
-    let mut table = [0u32; 480];
+    let mut table = Table::blank();
     let mut orders = no_orders();
     let n = read_tables(s, p, &mut table, &mut orders)?.zones;
     let total = 4 + n + sum_of(&step_counts(&table), 16);

@@ -14,6 +14,7 @@ use Rattle.crossing.specs.inner.Tables.{crossing_of}
 use Rattle.judge_one_move.specs.inner.Standing.{Standing}
 use Rattle.moving_asking.specs.declared.Asked.{Asked}
 use Rattle.moving_asking.specs.Asking.{has_moved, record_checks, request_checks, not_moved}
+use Rattle.sheet_table.specs.declared.Table.{Table}
 
 module _ (sheet : Sheet) (orders : Orders) (lent : Record) (cart : ℕ) where
   -- what the checks of the record and the cart say
@@ -24,7 +25,7 @@ module _ (sheet : Sheet) (orders : Orders) (lent : Record) (cart : ℕ) where
   abbrev pub ask_of : Asked
   ask_of = first_failing (not_moved sheet orders lent cart) (has_moved lent cart) (request_checks sheet orders lent cart)
 
-module _ (table ahead : List ℕ) (carts : ℕ) where
+module _ (table : Table) (ahead : List ℕ) (carts : ℕ) where
   pub record Askable : Type 0 where
     pub zones : ℕ
     pub count : List ℕ

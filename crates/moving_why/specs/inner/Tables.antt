@@ -17,18 +17,19 @@ use Rattle.moving_record.specs.declared.Record.{Record}
 use Rattle.moving_asking.specs.Asking.{record_checks}
 use Rattle.moving_why.specs.Why.{chain_refused, chain_by, chain_from}
 use Rattle.moving_why.specs.declared.Chain.{Chain}
+use Rattle.sheet_table.specs.declared.Table.{Table}
 
 -- whether cart c stands in its last zone
 abbrev pub last_in : List ℕ → List ℕ → ℕ → Bool
 last_in steps at c = eqb (get_or at c 0) (get_or steps c 0)
 
-abbrev pub chain_in : List ℕ → Orders → List ℕ → List ℕ → ℕ → Chain
+abbrev pub chain_in : Table → Orders → List ℕ → List ℕ → ℕ → Chain
 chain_in sheet orders at left c =
     chain_by (system (crossing_of sheet orders.ahead)) at (point_of sheet orders.count orders.list at left) (wanted_in (steps sheet) (zone sheet) at)
     (last_in (steps sheet) at) c
 
 -- carts can be pointed to and tested, and the pointing comes within 16 carts to one that may move
-pub record Followable (sheet lanes : List ℕ) (orders : Orders) (at left : List ℕ) (c : ℕ) : Type 0 where
+pub record Followable (sheet : Table) (lanes : List ℕ) (orders : Orders) (at left : List ℕ) (c : ℕ) : Type 0 where
   pub pointable : Pointable sheet lanes orders.count orders.list at
   pub standing : Standing (crossing_of sheet orders.ahead) at left
   pub cart : c < 16
@@ -41,7 +42,7 @@ module _ (sheet : Sheet) (orders : Orders) (lent : Record) (cart : ℕ) where
   abbrev pub why_of : Chain
   why_of = first_failing chain_refused (chain_from sheet orders lent cart) (record_checks sheet orders lent cart)
 
-module _ (table : List ℕ) (orders : Orders) (carts : ℕ) where
+module _ (table : Table) (orders : Orders) (carts : ℕ) where
   -- a sheet and a plan's orders in tables, as they were read
   pub record PlanIn : Type 0 where
     pub zones : ℕ

@@ -8,9 +8,10 @@ use Rattle.routes.specs.Crossing.{Crossing, steps}
 use Rattle.sheet_table.specs.inner.Parts as parts
 use Rattle.crossing.specs.Plans.{route_of}
 use Rattle.net_text.specs.Lines.{Line, lane_lines, pair_lines}
+use Rattle.sheet_table.specs.declared.Table.{Table}
 
 -- the step of cart d in zone z
-abbrev pub step_of : List ℕ → ℕ → ℕ → ℕ
+abbrev pub step_of : Table → ℕ → ℕ → ℕ
 step_of sheet d z = place_of (route_of (parts.steps sheet) (parts.zone sheet) d) z
 
 -- of the stop line, where `front` is the cart next in front of cart c
@@ -18,10 +19,10 @@ abbrev pub lane_in : Option ℕ → ℕ → ℕ → ℕ → List Line
 lane_in front c p d = pick (eqb p 0 && option_eq eqb front (Some d)) (lane_lines c d) []
 
 -- of a pair, where `ahead` is the set ahead of cart c's step p
-abbrev pub pair_in : List ℕ → ℕ → ℕ → ℕ → ℕ → List Line
+abbrev pub pair_in : Table → ℕ → ℕ → ℕ → ℕ → List Line
 pair_in sheet ahead c p d = pick (has ahead d) (pair_lines c p d (suc (step_of sheet d (get_or (parts.zone sheet) (8 * c + p) 0)))) []
 
-unfoldable pub other_in : List ℕ → Option ℕ → ℕ → ℕ → ℕ → ℕ → List Line
+unfoldable pub other_in : Table → Option ℕ → ℕ → ℕ → ℕ → ℕ → List Line
 other_in sheet front ahead c p d = lane_in front c p d ++ pair_in sheet ahead c p d
 
 -- p is a position of cart c, of 16

@@ -20,19 +20,13 @@ fn is_early(sheet: &Table, i: usize) -> bool
     requires { i < 16 }
     ensures { result ≡ early (lane sheet.now) (arrival sheet.now) i }
 {
-    let l = sheet.lane(i);
-    let a = sheet.arrival(i);
-    for e in 0..i {
-        if sheet.lane(e) == l {
-            if a < sheet.arrival(e) {
-                return true;
-            }
-        }
-    }
-    false
+    let lane = sheet.lane(i);
+    let arrival = sheet.arrival(i);
+    (0..i).any(|e| sheet.lane(e) == lane && arrival < sheet.arrival(e))
 }
 
 // After all fields: no byte may follow (13), then the arrivals on each lane of m carts (14).
+#[tactic(auto, using(crate::proofs::ScanLaws::finishing))]
 fn finished(
     s: &[u8],
     at: usize,

@@ -25,7 +25,7 @@ ring_of-ring-requires c = (
     wanting = sheet_wanting (sheet_in _ _ c.args.sheet.now) c.requires.valid _;
     listable = orders_listable (sheet_in _ _ c.args.sheet.now) c.requires.valid c.verdict_of.new.run.at c.args.orders.now c.requires.valid_orders;
   },
-  (c.verdict_of.ensures.lowest _ c.in-Some.is).0,
+  omega (arith, (c.verdict_of.ensures.lowest _ c.in-Some.is).0),
 )
 
 pub returns-in-Some : goal.returns-in-Some

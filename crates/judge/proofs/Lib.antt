@@ -1,7 +1,6 @@
 pub mod Numbers
 pub mod Verdict
 pub mod Words
-pub mod Copying
 pub mod Pointing
 pub mod Rings
 pub mod Answers

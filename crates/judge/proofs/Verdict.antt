@@ -2,11 +2,10 @@
 use Prim.Native.Nat.{ℕ, ◌<◌}
 use mathlib.Core.Path.{◌≡◌, sym, ap, ◌∙◌}
 use mathlib.Core.Logic.{◌↔◌}
-use mathlib.Core.Bool.{true}
-use mathlib.Core.List.{List}
+use mathlib.Core.Bool.{true, false, not-eq-not}
 use lib.ListN.{get_or}
 use lib.Dec.{eqb}
-use Rattle.words.proofs.Tests.{same_test}
+use Rattle.std.specs.Prelude.{Option, Some, None}
 use Rattle.moves.specs.System.{System, carts, pos, start}
 use Rattle.moves.specs.Runs.{end}
 use Rattle.moves.specs.inner.Runs.{AllComeOut}
@@ -25,9 +24,9 @@ use Rattle.crossing.specs.inner.Tables.{crossing_by, sheet_crossing, sheet_front
 use Rattle.crossing.specs.Plans.{plan_crossing}
 use Rattle.crossing.proofs.Tables.{carts_16, steps_is}
 use Rattle.crossing.proofs.Plans.{plan_system_lem}
+use Rattle.judge_one_move.specs.declared.Run.{Run}
 use Rattle.judge_ring.specs.Ring.{lowest_stuck}
 use Rattle.judge_verdict.specs.inner.Verdict.{Runs}
-use Rattle.judge_verdict.specs.declared.Verdict.{Verdict}
 use Rattle.judge.specs.Judging.{plan_system, at_end, is_out}
 
 module _ (sheet : Sheet) (orders : Orders) where
@@ -59,13 +58,24 @@ module _ (sheet : Sheet) (orders : Orders) where
   tables_out v w = ap (λ (T : System). all_below (λ c. eqb (pos (end T (start T)) c) (pos T.out c)) (carts T)) (plan_system_lem sheet v orders w)
 
   -- what the verdict over tables tells of the plan
-  module _ (v : Valid sheet) (w : ValidOrders sheet orders) (G : Given) (enter order : List ℕ) (run : Verdict) (runs : Runs X G enter order run) where
+  module _ (v : Valid sheet) (w : ValidOrders sheet orders) (G : Given) (run : Run) (stuck : Option ℕ) (runs : Runs X G run stuck) where
     pub settled_end : run.at ≡ at_end sheet orders
     settled_end = runs.settled.is_end ∙ ap (λ (T : System). end T (start T)) (plan_system_lem sheet v orders w)
 
-    pub stuck_lowest : run.stuck ≡ lowest_stuck S (at_end sheet orders)
-    stuck_lowest = runs.lowest ∙ ap (λ (T : System). lowest_stuck T run.at) (plan_system_lem sheet v orders w) ∙ ap (lowest_stuck S) settled_end
+    pub stuck_lowest : (c : ℕ) → stuck ≡ Some c → (c < 16) × (c ≡ lowest_stuck S (at_end sheet orders))
+    stuck_lowest c e = (
+      (runs.lowest c e).0,
+      (runs.lowest c e).1 ∙ ap (λ (T : System). lowest_stuck T run.at) (plan_system_lem sheet v orders w) ∙ ap (lowest_stuck S) settled_end,
+    )
 
-    pub verdict_is : run.out ≡ is_out sheet orders
-    verdict_is = same_test _ _ (λ e. (end_says X).1 (sym runs.settled.is_end ∙ runs.out.0 e))
-        (λ e. runs.out.1 (runs.settled.is_end ∙ (end_says X).0 e)) ∙ tables_out v w
+    verdict_is : (stuck ≡ None) ↔ (is_out sheet orders ≡ true)
+    verdict_is = (
+      λ e. sym (tables_out v w) ∙ (end_says X).1 (sym runs.settled.is_end ∙ runs.out.0 e),
+      λ e. runs.out.1 (runs.settled.is_end ∙ (end_says X).0 (tables_out v w ∙ e)),
+    )
+
+    pub accepted : stuck ≡ None → is_out sheet orders ≡ true
+    accepted = verdict_is.0
+
+    pub locked : (c : ℕ) → stuck ≡ Some c → is_out sheet orders ≡ false
+    locked c e = (not-eq-not {b = false}).0 (λ t. let none : stuck ≡ None = verdict_is.1 t in cc)

@@ -76,15 +76,20 @@ pub fn may_move(
     p == k
 }
 
-// A run of permitted moves: where the carts stand, which carts have left each zone, when each cart left each zone and entered each step's zone,
-// and the cart of each of the moves made.
+// A run of permitted moves.
 #[derive(Clone, Copy)]
 pub struct Run {
+    // How many moves each cart has made.
     pub at: [u8; 16],
+    // For each zone the set of the carts that have left it.
     pub left: [u16; 24],
+    // When cart c left zone z, at 16 * z + c.
     pub leave: [u32; 384],
-    pub enter: [u32; 128],
+    // The cart of each move, first to last.
     pub order: [u8; 144],
+    // When cart c entered the zone of its step j, at 8 * c + j.
+    pub enter: [u32; 128],
+    // How many moves are made.
     pub made: usize,
 }
 
@@ -97,10 +102,22 @@ impl Run {
             at: [0; 16],
             left: [0; 24],
             leave: [0; 384],
-            enter: [0; 128],
             order: [0; 144],
+            enter: [0; 128],
             made: 0,
         }
+    }
+
+    // All carts go back to the start. The order stays as it is, for none of its moves is counted then.
+    pub fn restart(&mut self)
+        ensures restarted { self.new ≡ record no_moves { order = self.old.order } }
+        ensures room { length self.new.order ≡ 144 }
+    {
+        self.at = [0; 16];
+        self.left = [0; 24];
+        self.leave = [0; 384];
+        self.enter = [0; 128];
+        self.made = 0;
     }
 
     // Cart c leaves zone z at a time.

@@ -8,7 +8,7 @@ use mathlib.Core.List.{List}
 use native.Mathlib.Decide.{ℕ_discrete, dec_lt}
 use native.Mathlib.Nat.{le_refl}
 use native.Mathlib.Omega.{arith}
-use lib.ListN.{get_or, replicate, length-replicate}
+use lib.ListN.{length, get_or, replicate, length-replicate}
 use lib.Count.{count_trailing_zeros}
 use Rattle.words.proofs.Tests.{or_says}
 use Rattle.sets.specs.inner.Member.{has, Without, Joined, Within, Lowest, Rest}
@@ -213,12 +213,13 @@ module _ (X : Crossing) (G : Given) where
     pub underway : Underway X G run
     pub going_is : Going X run.at going
 
-  pub settling_start : (asked : ℕ) → Sound X G → carts S ≡ 16 → AskedSet X (replicate 16 0) asked → Settling no_moves asked
-  settling_start asked sound all is = record {
+  pub settling_start : (order : List ℕ) (asked : ℕ) → Sound X G → carts S ≡ 16 → length order ≡ 144 → AskedSet X (replicate 16 0) asked
+      → Settling (record no_moves { order = order }) asked
+  settling_start order asked sound all size is = record {
     underway = record {
       running = running_start 16 24 384 128 sound all refl refl refl;
       counted = sym (zeros_sum 16);
-      order_144 = length-replicate {A = ℕ} 144 0;
+      order_144 = size;
       is_run = tt;
       run_ends = ap (λ (n : ℕ). replicate n 0) all;
     };

@@ -91,12 +91,12 @@ fn sweep(sheet: &Table, on: &[u16; 16], ahead: &[u16; 128], run: &mut Run, asked
     if run.made == before { 0 } else { still }
 }
 
-// Permitted moves are made from the start until none is left, and the run tells them and the entering times.
+// Permitted moves are made from the start until none is left; the run tells them and the entering times.
 pub fn settle(sheet: &Table, ahead: &[u16; 128], run: &mut Run)
     requires { Sound (crossing_of sheet.now ahead.now) (given_of sheet.now) }
     ensures { SettlesAs (crossing_of sheet.now ahead.now) (given_of sheet.now) run.new.at run.new.left run.new.enter run.new.order run.new.made }
 {
-    *run = Run::start();
+    run.restart();
     let on = present_lanes(sheet);
     let mut going = foremost(&on);
     while 0 < going {

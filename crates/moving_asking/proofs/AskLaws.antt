@@ -5,10 +5,12 @@ use mathlib.Core.Bool.{false}
 use mathlib.Core.List.{List}
 use native.Mathlib.Omega.{arith}
 use lib.Dec.{eqb}
+use Rattle.std.specs.Prelude.{Ok, Err}
 use borrow.Author.Tests.{ne_eqb}
 use Rattle.words.specs.declared.Outcome.{Outcome}
 use Rattle.sheet.specs.Reading.{sheet_of}
-use Rattle.sheet.specs.declared.Sheet.{Sheet}
+use Rattle.sheet_filling.specs.inner.Filled.{sheet_in}
+use Rattle.sheet_reader.specs.declared.Counts.{Counts}
 use Rattle.plan.specs.Reading.{read_plan}
 use Rattle.plan.specs.declared.Orders.{Orders}
 use Rattle.plan.specs.declared.PlanRead.{PlanRead}
@@ -38,9 +40,10 @@ module _ (s p : List ℕ) (lent : Record) (cart : ℕ) where
       ∙ sym (further_read (not_moved (sheet_of s) (orders_read s p) lent cart) (has_moved lent cart) s p (request_checks (sheet_of s) (orders_read s p) lent cart) e)
 
 -- the same of how reading both was left
-module _ (s p : List ℕ) (sheet : Sheet) (orders : Orders) (outcome : Outcome) (left : BothRead s p sheet orders outcome) (lent : Record) (cart : ℕ) where
-  pub ask_refused : (outcome.number ≡ 0 → ⊥) → no_move outcome 0 ≡ ask s p lent cart
-  ask_refused n = rw (sym (both_refused s p sheet orders outcome left n)) at (refused_is s p lent cart) n
+module _ (s p table : List ℕ) (orders : Orders) (lent : Record) (cart : ℕ) where
+  pub ask_refused : (outcome : Outcome) → BothRead s p table orders (Err outcome) → no_move outcome 0 ≡ ask s p lent cart
+  ask_refused outcome left =
+      rw (sym (both_refused s p table orders outcome left)) at (refused_is s p lent cart) (λ e. omega (arith, left.0, e))
 
-  pub ask_read : outcome.number ≡ 0 → ask_of sheet orders lent cart ≡ ask s p lent cart
-  ask_read e = rw (sym (both_read s p sheet orders outcome left e)) at (read_is s p lent cart) refl
+  pub ask_read : (counts : Counts) → BothRead s p table orders (Ok counts) → ask_of (sheet_in counts.zones counts.carts table) orders lent cart ≡ ask s p lent cart
+  ask_read counts left = rw (sym (both_read s p table orders counts left)) at (read_is s p lent cart) refl

@@ -1,3 +1,4 @@
+pub mod Bit
 pub mod Counted
 pub mod Ahead
 pub mod Tested

@@ -7,6 +7,7 @@ use mathlib.Core.List.{List, [], ◌∷◌}
 use native.Mathlib.Decide.{dec_lt}
 use native.Mathlib.Omega.{arith}
 use lib.ListN.{get_or}
+use Rattle.std.specs.Prelude.{Option, Some, None, is_some}
 use borrow.Author.Tests.{ltb-true, lt-ltb, le-ltb}
 use Rattle.words.specs.Checks.{check, done, refused, first_failing, AllPass}
 use Rattle.words.proofs.First.{first_pass}
@@ -33,7 +34,6 @@ use Rattle.judge_one_move.specs.inner.Standing.{Standing}
 use Rattle.moving_record.specs.Record.{is_reached}
 use Rattle.moving_record.specs.inner.Tables.{Orderly, TestedAs}
 use Rattle.moving_record.specs.declared.Record.{Record}
-use Rattle.moving_record.specs.declared.Tested.{Tested}
 use Rattle.moving_record.proofs.Few.{reached_few}
 use Rattle.judge.specs.Judging.{plan_system, is_out}
 use Rattle.judge.proofs.Verdict.{out_at, tables_out}
@@ -68,18 +68,17 @@ module _ (sheet : Sheet) (orders : Orders) (v : Valid sheet) (w : ValidOrders sh
   module _ (lent : Record) where
     -- ---- the record
 
-    module _ (tested : Tested) (test : TestedAs X lent tested) where
-      reached_is : tested.reached ≡ is_reached S lent
-      reached_is = test.reached_is ∙ ap (λ (T : System). is_reached T lent) (plan_system_lem sheet v orders w)
+    reached_is : (tested : Option (List ℕ)) → TestedAs X lent tested → is_reached S lent ≡ is_some tested
+    reached_is tested test = sym (ap (λ (T : System). is_reached T lent) (plan_system_lem sheet v orders w)) ∙ sym test.reached_is
 
-      pub tested_standing : tested.reached ≡ true → Standing X lent.position tested.left
-      tested_standing reached = record {
-        once = sound.once;
-        only = sound.only;
-        zone_below = sound.zone_below;
-        steps_most = sound.ranged.steps_most;
-        left_is = test.left_is reached;
-      }
+    pub tested_standing : (left : List ℕ) → TestedAs X lent (Some left) → Standing X lent.position left
+    tested_standing left test = record {
+      once = sound.once;
+      only = sound.only;
+      zone_below = sound.zone_below;
+      steps_most = sound.ranged.steps_most;
+      left_is = test.left_is;
+    }
 
     module _ (cart : ℕ) where
       -- where the cart stands, and how many steps it has
@@ -98,36 +97,36 @@ module _ (sheet : Sheet) (orders : Orders) (v : Valid sheet) (w : ValidOrders sh
         out_is : run ≡ is_out sheet orders
         out_is = run_is ∙ tables_out sheet orders v w
 
-        pub locked_is : run ≡ false → refused 22 0 ≡ tested_of sheet orders lent cart
+        pub locked_is : run ≡ false → tested_of sheet orders lent cart ≡ refused 22 0
         unfolding first_failing
         locked_is locked = rw (sym out_is ∙ locked)
 
-        module _ (accepted : run ≡ true) (tested : Tested) (test : TestedAs X lent tested) where
+        module _ (accepted : run ≡ true) where
           out : is_out sheet orders ≡ true
           out = sym out_is ∙ accepted
 
-          pub unreached_is : tested.reached ≡ false → refused 23 0 ≡ tested_of sheet orders lent cart
+          pub unreached_is : TestedAs X lent None → tested_of sheet orders lent cart ≡ refused 23 0
           unfolding first_failing
-          unreached_is none = rw (out, sym (reached_is tested test) ∙ none)
+          unreached_is test = rw (out, reached_is None test)
 
-          module _ (reached : tested.reached ≡ true) where
-            is_reached_lem : is_reached S lent ≡ true
-            is_reached_lem = sym (reached_is tested test) ∙ reached
+          module _ (left : List ℕ) (test : TestedAs X lent (Some left)) where
+            reached : is_reached S lent ≡ true
+            reached = reached_is (Some left) test
 
-            pub absent_is : sheet.carts ≤ cart → refused 24 0 ≡ tested_of sheet orders lent cart
+            pub absent_is : sheet.carts ≤ cart → tested_of sheet orders lent cart ≡ refused 24 0
             unfolding first_failing
-            absent_is past = rw (out, is_reached_lem, le-ltb cart sheet.carts past)
+            absent_is past = rw (out, reached, le-ltb cart sheet.carts past)
 
             module _ (present : cart < sheet.carts) where
-              pub already_is : k < p → refused 25 0 ≡ tested_of sheet orders lent cart
+              pub already_is : k < p → tested_of sheet orders lent cart ≡ refused 25 0
               unfolding first_failing
-              already_is past = rw (out, is_reached_lem, lt-ltb cart sheet.carts present, le-ltb p (pos S.out cart) (omega (arith, last present)))
+              already_is past = rw (out, reached, lt-ltb cart sheet.carts present, le-ltb p (pos S.out cart) (omega (arith, last present)))
 
-              pub inside_is : p ≤ k → done ≡ tested_of sheet orders lent cart
+              pub inside_is : p ≤ k → tested_of sheet orders lent cart ≡ done
               unfolding first_failing
-              inside_is inside = rw (out, is_reached_lem, lt-ltb cart sheet.carts present, lt-ltb p (pos S.out cart) (omega (arith, last present)))
+              inside_is inside = rw (out, reached, lt-ltb cart sheet.carts present, lt-ltb p (pos S.out cart) (omega (arith, last present)))
 
-      -- ---- where the test says done
+      -- ---- where the checks pass
 
       module _ (passed : AllPass (record_checks sheet orders lent cart)) where
         present : cart < sheet.carts

@@ -4,6 +4,7 @@ use mathlib.Core.Path.{◌≡◌, refl, sym, ap, ◌∙◌}
 use mathlib.Core.List.{List, ◌++◌}
 use native.Mathlib.Omega.{arith}
 use lib.Dec.{lit<}
+use Rattle.std.specs.Prelude.{Ok, Err}
 use Rattle.words.specs.Checks.{Check, done, refused, first_failing, AllPass}
 use Rattle.words.specs.declared.Outcome.{Outcome}
 use Rattle.words.proofs.First.{fails_refuses, fails_append, fails_keeps, done_passes, refusal_fails}
@@ -15,9 +16,7 @@ use Rattle.plan_reader.specs.inner.Scan.{orders_in}
 use Rattle.sheet_filling.specs.inner.Filled.{sheet_in}
 use Rattle.moving_record.specs.declared.Record.{Record}
 use Rattle.moving_asking.specs.Asking.{record_checks}
-use Rattle.moving_asking.specs.inner.Tables.{untested}
 use Rattle.moving_asking.specs.inner.Held.{tested_of, TestedIn}
-use Rattle.moving_asking.specs.declared.CartTested.{CartTested}
 
 module _ (sheet : Sheet) (orders : Orders) (lent : Record) (cart : ℕ) where
   pub tested_passes : (tested_of sheet orders lent cart).number ≡ 0 → AllPass (record_checks sheet orders lent cart)
@@ -39,24 +38,16 @@ module _ (sheet : Sheet) (orders : Orders) (lent : Record) (cart : ℕ) where
       fails_refuses refuse answer (record_checks sheet orders lent cart ++ own) c (fails_append (record_checks sheet orders lent cart) own c f)
       ∙ ap refuse (sym told)
 
--- the test's own ways out: a refusal tells no set
-pub refused_in : (table ahead : List ℕ) (carts : ℕ) (lent : Record) (cart number : ℕ) (tested : CartTested) → 0 < number
-    → tested ≡ untested (refused number 0)
+-- the test's own ways out
+pub refused_in : (table ahead : List ℕ) (carts : ℕ) (lent : Record) (cart number : ℕ) → 0 < number
     → ((zones : ℕ) (count list : List ℕ) → Valid (sheet_in zones carts table) → ValidOrders (sheet_in zones carts table) (orders_in count list ahead)
-    → refused number 0 ≡ tested_of (sheet_in zones carts table) (orders_in count list ahead) lent cart)
-    → TestedIn table ahead carts lent cart tested
-refused_in table ahead carts lent cart number tested some is says =
-    let told = ap (λ (t : CartTested). t.outcome) is in
-    record {
-      outcome_is = λ zones count list v w. told ∙ says zones count list v w;
-      standing = λ e. absurd (omega (arith, some, e, ap (λ (o : Outcome). o.number) told));
-    }
+    → tested_of (sheet_in zones carts table) (orders_in count list ahead) lent cart ≡ refused number 0)
+    → TestedIn table ahead carts lent cart (Err (refused number 0))
+refused_in table ahead carts lent cart number some says = record { outcome_is = λ zones count list v w. (some, says zones count list v w); standing = tt }
 
--- and where it says done, the checks pass
-pub passed_in : (table ahead : List ℕ) (carts : ℕ) (lent : Record) (cart : ℕ) (tested : CartTested) → TestedIn table ahead carts lent cart tested
-    → tested.outcome.number ≡ 0 → (zones : ℕ) (count list : List ℕ) (v : Valid (sheet_in zones carts table))
-    (w : ValidOrders (sheet_in zones carts table) (orders_in count list ahead))
+-- and where it tells the carts that have left, the checks pass
+pub passed_in : (table ahead : List ℕ) (carts : ℕ) (lent : Record) (cart : ℕ) (left : List ℕ) → TestedIn table ahead carts lent cart (Ok left)
+    → (zones : ℕ) (count list : List ℕ) (v : Valid (sheet_in zones carts table)) (w : ValidOrders (sheet_in zones carts table) (orders_in count list ahead))
     → AllPass (record_checks (sheet_in zones carts table) (orders_in count list ahead) lent cart)
-passed_in table ahead carts lent cart tested is e zones count list v w =
-    tested_passes (sheet_in zones carts table) (orders_in count list ahead) lent cart
-    (sym (ap (λ (o : Outcome). o.number) (is.outcome_is zones count list v w)) ∙ e)
+passed_in table ahead carts lent cart left is zones count list v w =
+    tested_passes (sheet_in zones carts table) (orders_in count list ahead) lent cart (ap (λ (o : Outcome). o.number) (is.outcome_is zones count list v w))

@@ -5,7 +5,7 @@ ghost use Rattle.std.specs.Prelude.{◌≡◌};
 ghost use Rattle.sheet_table.specs.inner.Parts.{zone};
 ghost use Rattle.crossing.specs.inner.Tables.{crossing_of};
 ghost use Rattle.judge_entering.specs.inner.Lanes.{lanes_of};
-ghost use Rattle.moving_asking.specs.inner.Tables.{WantsZone, not_gone, held_by, no_move, untested};
+ghost use Rattle.moving_asking.specs.inner.Tables.{WantsZone, not_gone, held_by, no_move};
 ghost use Rattle.moving_asking.specs.Asking.{ask};
 ghost use Rattle.moving_asking.specs.inner.Held.{Askable, TestedIn, AskedIn};
 
@@ -13,9 +13,10 @@ use judge_all_out::all_out;
 use judge_entering::{Lanes, lane_holds, lanes};
 use judge_one_move::may_move;
 use moving_record::{Record, test_record};
+use plan::no_orders;
 use plan_reader::read_tables;
 use sets::carts;
-use sheet_table::{Table, wide};
+use sheet_table::Table;
 use words::{Outcome, done, refused};
 
 // What a request is answered: done with the cart's new position and the new count, or a refusal with both 0.
@@ -46,7 +47,7 @@ fn not_gone(sheet: &Table, ahead: &[u16; 128], at: &[u8; 16], left: &[u16; 24], 
     requires { WantsZone (zone sheet.now) at.now c }
     ensures { result ≡ not_gone (zone sheet.now) ahead.now at.now left.now c }
 {
-    let x = 8 * c + wide(at[c]);
+    let x = 8 * c + usize::from(at[c]);
     let z = sheet_table::zone(sheet, x);
     carts::count(carts::less(ahead[x], left[z]))
 }
@@ -64,31 +65,11 @@ fn carts_ahead(
     ensures { result ≡ held_by (crossing_of sheet.now ahead.now) (zone sheet.now) ahead.now
         at.now left.now c }
 {
-    let n = not_gone(sheet, ahead, at, left, c);
-    if lane_holds(lanes, at, c) {
-        return n + 1;
-    }
-    n
-}
-
-// What the checks of a lent record and of a cart in it say: done, with for each zone the carts that have left it, or the first that fails.
-#[derive(Clone, Copy)]
-pub struct CartTested {
-    pub outcome: Outcome,
-    pub left: [u16; 24],
-}
-
-// A refusal: no set is told.
-fn untested(outcome: Outcome) -> CartTested
-    ensures { result ≡ untested outcome }
-{
-    CartTested {
-        outcome,
-        left: [0u16; 24],
-    }
+    not_gone(sheet, ahead, at, left, c) + u32::from(lane_holds(lanes, at, c))
 }
 
 // Under a readable plan of m carts: the plan is not locked (22), a run reaches the record (23), and the cart is on the sheet (24) and not out (25).
+// Then for each zone the carts that have left it, or the first check that fails.
 pub fn test_cart(
     sheet: &Table,
     lanes: &Lanes,
@@ -96,28 +77,23 @@ pub fn test_cart(
     m: usize,
     lent: Record,
     cart: usize,
-) -> CartTested
+) -> Result<[u16; 24], Outcome>
     requires { Askable sheet.now ahead.now m × (lanes.now ≡ lanes_of sheet.now) }
     ensures { TestedIn sheet.now ahead.now m lent cart result }
 {
     if !all_out(sheet, lanes, ahead) {
-        return untested(refused(22, 0));
+        return Err(refused(22, 0));
     }
-    let tested = test_record(sheet, lanes, ahead, lent);
-    if !tested.reached {
-        return untested(refused(23, 0));
-    }
+    let Some(left) = test_record(sheet, lanes, ahead, lent) else {
+        return Err(refused(23, 0));
+    };
     if m <= cart {
-        return untested(refused(24, 0));
+        return Err(refused(24, 0));
     }
-    if sheet_table::steps(sheet, cart) < wide(lent.position[cart]) {
-        return untested(refused(25, 0));
+    if sheet_table::steps(sheet, cart) < usize::from(lent.position[cart]) {
+        return Err(refused(25, 0));
     }
-    let left = tested.left;
-    CartTested {
-        outcome: done(),
-        left,
-    }
+    Ok(left)
 }
 
 // A request under a readable plan, of m carts: the checks of the record and the cart, and the cart is not held (26).
@@ -126,13 +102,11 @@ fn ask_plan(sheet: &Table, ahead: &[u16; 128], m: usize, lent: Record, cart: usi
     ensures { AskedIn sheet.now ahead.now m lent cart result }
 {
     let lanes = lanes(sheet);
-    let tested = test_cart(sheet, &lanes, ahead, m, lent, cart);
-    let outcome = tested.outcome;
-    if outcome.number != 0 {
-        return no_move(outcome, 0);
-    }
+    let left = match test_cart(sheet, &lanes, ahead, m, lent, cart) {
+        Ok(left) => left,
+        Err(refusal) => return no_move(refusal, 0),
+    };
     let at = lent.position;
-    let left = tested.left;
     if !may_move(sheet, &lanes, ahead, &at, &left, cart) {
         return no_move(
             refused(26, 0),
@@ -153,13 +127,9 @@ pub fn ask(s: &[u8], p: &[u8], lent: Record, cart: usize) -> Asked
     ensures { result ≡ ask s.now p.now lent cart }
 {
     let mut sheet = [0u32; 480];
-    let mut count = [0u8; 24];
-    let mut list = [0u8; 384];
-    let mut ahead = [0u16; 128];
-    let read = read_tables(s, p, &mut sheet, &mut count, &mut list, &mut ahead);
-    let outcome = read.outcome;
-    if outcome.number != 0 {
-        return no_move(outcome, 0);
+    let mut orders = no_orders();
+    match read_tables(s, p, &mut sheet, &mut orders) {
+        Ok(read) => ask_plan(&sheet, &orders.ahead, read.carts, lent, cart),
+        Err(refusal) => no_move(refusal, 0),
     }
-    ask_plan(&sheet, &ahead, read.carts, lent, cart)
 }

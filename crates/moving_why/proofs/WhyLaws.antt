@@ -2,17 +2,22 @@
 use Prim.Native.Nat.{ℕ}
 use mathlib.Core.Path.{◌≡◌, refl, sym, ap, ◌∙◌}
 use mathlib.Core.List.{List, []}
+use native.Mathlib.Omega.{arith}
+use Rattle.std.specs.Prelude.{Ok, Err}
+use Rattle.words.specs.Checks.{AllPass}
 use Rattle.words.specs.declared.Outcome.{Outcome}
 use Rattle.words.proofs.First.{pass_answers}
 use Rattle.sheet.specs.Reading.{sheet_of}
-use Rattle.sheet.specs.declared.Sheet.{Sheet}
+use Rattle.sheet.specs.Valid.{Valid}
 use Rattle.sheet_filling.specs.inner.Filled.{sheet_in}
+use Rattle.sheet_reader.specs.declared.Counts.{Counts}
+use Rattle.plan.specs.Valid.{ValidOrders}
 use Rattle.plan.specs.Reading.{read_plan}
 use Rattle.plan.specs.declared.Orders.{Orders}
 use Rattle.plan.specs.declared.PlanRead.{PlanRead}
 use Rattle.plan.proofs.Readable.{readable_whole}
 use Rattle.plan.proofs.Further.{further_refused, further_read}
-use Rattle.plan_reader.specs.inner.Scan.{orders_in, BothRead}
+use Rattle.plan_reader.specs.inner.Scan.{BothRead}
 use Rattle.plan_reader.proofs.ReadLaws.{both_refused, both_read}
 use Rattle.judge_entering.specs.inner.Lanes.{lanes_of}
 use Rattle.judge.specs.Judging.{orders_read}
@@ -20,7 +25,6 @@ use Rattle.judge.proofs.Rings.{sheet_wanting, orders_listable}
 use Rattle.moving_record.specs.declared.Record.{Record}
 use Rattle.moving_asking.specs.Asking.{record_checks}
 use Rattle.moving_asking.specs.inner.Held.{tested_of, TestedIn}
-use Rattle.moving_asking.specs.declared.CartTested.{CartTested}
 use Rattle.moving_asking.proofs.Tested.{tested_refused, passed_in}
 use Rattle.moving_asking.proofs.Request.{tested_cart}
 use Rattle.moving_why.specs.Why.{chain_refused, chain_from, why}
@@ -40,48 +44,48 @@ module _ (s p : List ℕ) (lent : Record) (cart : ℕ) where
       ∙ sym (further_read chain_refused (chain_from (sheet_of s) (orders_read s p) lent cart) s p (record_checks (sheet_of s) (orders_read s p) lent cart) e)
 
 -- the same of how reading both was left
-module _ (s p : List ℕ) (sheet : Sheet) (orders : Orders) (outcome : Outcome) (left : BothRead s p sheet orders outcome) (lent : Record) (cart : ℕ) where
-  pub why_refused : (outcome.number ≡ 0 → ⊥) → chain_refused outcome ≡ why s p lent cart
-  why_refused n = rw (sym (both_refused s p sheet orders outcome left n)) at (refused_is s p lent cart) n
+module _ (s p table : List ℕ) (orders : Orders) (lent : Record) (cart : ℕ) where
+  pub why_refused : (outcome : Outcome) → BothRead s p table orders (Err outcome) → chain_refused outcome ≡ why s p lent cart
+  why_refused outcome left =
+      rw (sym (both_refused s p table orders outcome left)) at (refused_is s p lent cart) (λ e. omega (arith, left.0, e))
 
-  pub why_read : outcome.number ≡ 0 → why_of sheet orders lent cart ≡ why s p lent cart
-  why_read e = rw (sym (both_read s p sheet orders outcome left e)) at (read_is s p lent cart) refl
+  pub why_read : (counts : Counts) → BothRead s p table orders (Ok counts) → why_of (sheet_in counts.zones counts.carts table) orders lent cart ≡ why s p lent cart
+  why_read counts left = rw (sym (both_read s p table orders counts left)) at (read_is s p lent cart) refl
 
 -- and of what the test told of the tables
-module _ (table ahead : List ℕ) (carts : ℕ) (lent : Record) (cart : ℕ) (tested : CartTested) (says : TestedIn table ahead carts lent cart tested)
-    (count list : List ℕ) where
-  pub untested_in : (tested.outcome.number ≡ 0 → ⊥) → WhyIn table count list ahead carts lent cart (chain_refused tested.outcome)
-  untested_in n zones v w =
+module _ (table : List ℕ) (orders : Orders) (carts : ℕ) (lent : Record) (cart : ℕ) where
+  pub untested_in : (outcome : Outcome) → TestedIn table orders.ahead carts lent cart (Err outcome) → WhyIn table orders carts lent cart (chain_refused outcome)
+  untested_in outcome says zones v w =
       let sheet = sheet_in zones carts table in
-      let orders = orders_in count list ahead in
-      let is : tested.outcome ≡ tested_of sheet orders lent cart = says.outcome_is zones count list v w in
-      rw is (sym (tested_refused sheet orders lent cart chain_refused (chain_from sheet orders lent cart) [] (rw is at n)))
+      let (positive, is) = says.outcome_is zones orders.count orders.list v w in
+      let some : (tested_of sheet orders lent cart).number ≡ 0 → ⊥ = λ e. omega (arith, positive, e, ap (λ (o : Outcome). o.number) is) in
+      rw (sym is) (sym (tested_refused sheet orders lent cart chain_refused (chain_from sheet orders lent cart) [] some))
 
-  pub followable_in : tested.outcome.number ≡ 0 → PlanIn table count list ahead carts → (lanes : List ℕ) → lanes ≡ lanes_of table
-      → Followable table lanes count list ahead lent.position tested.left cart
-  followable_in e plan lanes are =
-      let sheet = sheet_in plan.zones carts table in
-      let orders = orders_in count list ahead in
-      let passed = passed_in table ahead carts lent cart tested says e plan.zones count list plan.valid plan.valid_orders in
-      let (far, few, free) = free_within sheet orders plan.valid plan.valid_orders lent cart passed tested.left (says.standing e) in
-      record {
-        pointable = record {
-          lanes_are = are;
-          wanting = sheet_wanting sheet plan.valid lent.position;
-          listable = orders_listable sheet plan.valid lent.position orders plan.valid_orders;
-        };
-        standing = says.standing e;
-        cart = tested_cart sheet orders plan.valid plan.valid_orders lent cart passed;
-        far = far;
-        far_few = few;
-        free = free;
-      }
+  module _ (left : List ℕ) (says : TestedIn table orders.ahead carts lent cart (Ok left)) where
+    passed : (zones : ℕ) → Valid (sheet_in zones carts table) → ValidOrders (sheet_in zones carts table) orders
+        → AllPass (record_checks (sheet_in zones carts table) orders lent cart)
+    passed zones = passed_in table orders.ahead carts lent cart left says zones orders.count orders.list
 
-  pub chain_in_lem : tested.outcome.number ≡ 0
-      → WhyIn table count list ahead carts lent cart (chain_in table count list ahead lent.position tested.left cart)
-  chain_in_lem e zones v w =
-      let sheet = sheet_in zones carts table in
-      let orders = orders_in count list ahead in
-      let passed = passed_in table ahead carts lent cart tested says e zones count list v w in
-      chain_is sheet orders v w lent cart passed tested.left (says.standing e)
-      ∙ sym (pass_answers chain_refused (chain_from sheet orders lent cart) (record_checks sheet orders lent cart) passed)
+    pub followable_in : PlanIn table orders carts → (lanes : List ℕ) → lanes ≡ lanes_of table → Followable table lanes orders lent.position left cart
+    followable_in plan lanes are =
+        let sheet = sheet_in plan.zones carts table in
+        let all = passed plan.zones plan.valid plan.valid_orders in
+        let (far, few, free) = free_within sheet orders plan.valid plan.valid_orders lent cart all left says.standing in
+        record {
+          pointable = record {
+            lanes_are = are;
+            wanting = sheet_wanting sheet plan.valid lent.position;
+            listable = orders_listable sheet plan.valid lent.position orders plan.valid_orders;
+          };
+          standing = says.standing;
+          cart = tested_cart sheet orders plan.valid plan.valid_orders lent cart all;
+          far = far;
+          far_few = few;
+          free = free;
+        }
+
+    pub chain_in_lem : WhyIn table orders carts lent cart (chain_in table orders lent.position left cart)
+    chain_in_lem zones v w =
+        let sheet = sheet_in zones carts table in
+        chain_is sheet orders v w lent cart (passed zones v w) left says.standing
+        ∙ sym (pass_answers chain_refused (chain_from sheet orders lent cart) (record_checks sheet orders lent cart) (passed zones v w))

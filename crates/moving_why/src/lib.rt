@@ -12,8 +12,9 @@ use judge_one_move::may_move;
 use judge_ring::{points_to, wanted_zone};
 use moving_asking::test_cart;
 use moving_record::Record;
+use plan::{Orders, no_orders};
 use plan_reader::read_tables;
-use sheet_table::{Table, wide};
+use sheet_table::Table;
 use words::{Outcome, done};
 
 // The chain from the cart asked about: each is held by the next, and the last may move now. Unused entries are 0.
@@ -46,25 +47,20 @@ fn wants_out(sheet: &Table, at: &[u8; 16], c: usize) -> u8
     requires { c < 16 }
     ensures { result ≡ bit (last_in (steps sheet.now) at.now c) }
 {
-    if wide(at[c]) == sheet_table::steps(sheet, c) {
-        return 1;
-    }
-    0
+    u8::from(usize::from(at[c]) == sheet_table::steps(sheet, c))
 }
 
 // The chain from a cart, where the carts stand and have left zones as the tables say.
-fn chain_from<'a>(
+fn chain_from(
     sheet: &Table,
     lanes: &Lanes,
-    count: &'a [u8; 24],
-    list: &'a [u8; 384],
-    ahead: &[u16; 128],
+    orders: &Orders,
     at: &[u8; 16],
     left: &[u16; 24],
     asked: usize,
 ) -> Chain
-    requires { Followable sheet.now lanes.now count.now list.now ahead.now at.now left.now asked }
-    ensures { result ≡ chain_in sheet.now count.now list.now ahead.now at.now left.now asked }
+    requires { Followable sheet.now lanes.now orders.now at.now left.now asked }
+    ensures { result ≡ chain_in sheet.now orders.now at.now left.now asked }
 {
     let mut cart = [0u8; 16];
     let mut zone = [0u8; 16];
@@ -73,7 +69,7 @@ fn chain_from<'a>(
     loop {
         cart[n] = c as u8;
         zone[n] = wanted_zone(sheet, at, c) as u8;
-        if may_move(sheet, lanes, ahead, at, left, c) {
+        if may_move(sheet, lanes, &orders.ahead, at, left, c) {
             return Chain {
                 outcome: done(),
                 length: n + 1,
@@ -83,32 +79,20 @@ fn chain_from<'a>(
             };
         }
         n += 1;
-        c = points_to(sheet, lanes, count, list, at, left, c);
+        c = points_to(sheet, lanes, orders, at, left, c);
     }
 }
 
 // The chain under a readable plan, of m carts: the checks of the record and the cart come first.
-fn why_plan<'a>(
-    sheet: &Table,
-    count: &'a [u8; 24],
-    list: &'a [u8; 384],
-    ahead: &[u16; 128],
-    m: usize,
-    lent: Record,
-    cart: usize,
-) -> Chain
-    requires { PlanIn sheet.now count.now list.now ahead.now m }
-    ensures { WhyIn sheet.now count.now list.now ahead.now m lent cart result }
+fn why_plan(sheet: &Table, orders: &Orders, m: usize, lent: Record, cart: usize) -> Chain
+    requires { PlanIn sheet.now orders.now m }
+    ensures { WhyIn sheet.now orders.now m lent cart result }
 {
     let lanes = lanes(sheet);
-    let tested = test_cart(sheet, &lanes, ahead, m, lent, cart);
-    let outcome = tested.outcome;
-    if outcome.number != 0 {
-        return no_chain(outcome);
+    match test_cart(sheet, &lanes, &orders.ahead, m, lent, cart) {
+        Ok(left) => chain_from(sheet, &lanes, orders, &lent.position, &left, cart),
+        Err(refusal) => no_chain(refusal),
     }
-    let at = lent.position;
-    let left = tested.left;
-    chain_from(sheet, &lanes, count, list, ahead, &at, &left, cart)
 }
 
 // Why a cart does not move, for every two byte strings, record and number:
@@ -117,13 +101,9 @@ pub fn why(s: &[u8], p: &[u8], lent: Record, cart: usize) -> Chain
     ensures { result ≡ why s.now p.now lent cart }
 {
     let mut sheet = [0u32; 480];
-    let mut count = [0u8; 24];
-    let mut list = [0u8; 384];
-    let mut ahead = [0u16; 128];
-    let read = read_tables(s, p, &mut sheet, &mut count, &mut list, &mut ahead);
-    let outcome = read.outcome;
-    if outcome.number != 0 {
-        return no_chain(outcome);
+    let mut orders = no_orders();
+    match read_tables(s, p, &mut sheet, &mut orders) {
+        Ok(read) => why_plan(&sheet, &orders, read.carts, lent, cart),
+        Err(refusal) => no_chain(refusal),
     }
-    why_plan(&sheet, &count, &list, &ahead, read.carts, lent, cart)
 }

@@ -9,6 +9,7 @@ use words::Outcome;
 
 // What a sheet and a plan begin with: version, length and zone count, which is from least to most. Answers the zone count and the cursor after it.
 // The numbers of the checks follow each other from that of a cut field on.
+#[tactic(auto, using(fields::proofs::TakingLaws::ways_on), unfolding(crate::specs::inner::Opening::opening_by))]
 pub fn read_opening(
     s: &[u8],
     first: u32,

@@ -13,7 +13,7 @@ use std::cmp::Ordering;
 
 // What the costs of the candidates are made of: the sheet, the carts' ranks, where their steps stand, the undecided pairs, and the times of a run.
 #[derive(Clone, Copy)]
-pub struct Facts<'a> {
+pub struct CostFacts<'a> {
     pub sheet: &'a Table,
     pub rank: &'a [u8; 16],
     pub visit: &'a [u8; 384],
@@ -39,7 +39,7 @@ fn cost_of(clear: u32, latest: u32) -> i32
 }
 
 // Whether a tie goes to cart a before the cart of the step at x, not to d before that of y: by zone, then by the rank of A, then of B.
-fn wins_tie(facts: &Facts, x: usize, a: usize, y: usize, d: usize) -> bool
+fn wins_tie(facts: &CostFacts, x: usize, a: usize, y: usize, d: usize) -> bool
     requires { (x < 128) × (a < 16) × (y < 128) × (d < 16) }
     ensures { result ≡ wins_tie (zone facts.now.sheet.now) facts.now.rank.now x a y d }
 {
@@ -52,7 +52,7 @@ fn wins_tie(facts: &Facts, x: usize, a: usize, y: usize, d: usize) -> bool
 }
 
 // Whether cart a before the cart of the step at x, at this cost, is taken over the choice so far, if there is one.
-fn is_taken(facts: &Facts, x: usize, a: usize, cost: i32, most: Option<Choice>) -> bool
+fn is_taken(facts: &CostFacts, x: usize, a: usize, cost: i32, most: Option<Choice>) -> bool
     requires { (x < 128) × (a < 16) × IfSome most (λ r. (r.step < 128) × (r.first < 16)) }
     ensures { result ≡ is_taken_at (zone facts.now.sheet.now) facts.now.rank.now x a cost most }
 {
@@ -67,7 +67,7 @@ fn is_taken(facts: &Facts, x: usize, a: usize, cost: i32, most: Option<Choice>) 
 }
 
 // The choice among the candidates of the steps below x is `best`; answers the choice among these and those of the step at x.
-fn largest_at(facts: &Facts, x: usize, best: Option<Choice>) -> Option<Choice>
+fn largest_at(facts: &CostFacts, x: usize, best: Option<Choice>) -> Option<Choice>
     requires { Choosing (tables_in facts.now) x best }
     ensures { ChosenBelow (tables_in facts.now) (x + 1) result }
 {
@@ -96,7 +96,7 @@ fn largest_at(facts: &Facts, x: usize, best: Option<Choice>) -> Option<Choice>
 }
 
 // The order of largest cost among all candidates; None where there is none.
-pub fn largest_cost(facts: &Facts) -> Option<Choice>
+pub fn largest_cost(facts: &CostFacts) -> Option<Choice>
     requires { InRange (tables_in facts.now) }
     ensures { ChosenBelow (tables_in facts.now) 128 result }
 {

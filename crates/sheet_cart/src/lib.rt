@@ -27,6 +27,7 @@ pub struct Step {
 }
 
 // Lane, arrival and step count of the cart at c, with the cursor after them.
+#[tactic(auto, using(fields::proofs::TakingLaws::ways_on), unfolding(crate::specs::inner::Parts::head_at))]
 pub fn read_head(s: &[u8], c: Cursor) -> Result<(CartHead, Cursor), Outcome>
     ensures { result ≡ head_at s.now c }
 {
@@ -72,6 +73,7 @@ fn is_travel(t: u32, j: usize, k: usize) -> bool
 }
 
 // Step j of k at c, with the cursor after it, of a route whose earlier steps name the zones seen; n zones.
+#[tactic(auto, using(fields::proofs::TakingLaws::ways_on), unfolding(crate::specs::inner::Parts::step_at))]
 pub fn read_step(
     s: &[u8],
     c: Cursor,

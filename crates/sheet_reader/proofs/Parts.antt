@@ -3,20 +3,19 @@ use Prim.Native.Nat.{ℕ, ◌+◌, ◌-◌, ◌≤◌, ◌<◌}
 use mathlib.Core.Path.{◌≡◌, refl, sym, ap, ◌∙◌}
 use mathlib.Core.List.{List}
 use lib.ListN.{replicate}
-use borrow.Author.Tests.{le-leb}
-use Rattle.std.specs.Prelude.{Some, Ok, Err}
+use Rattle.std.specs.Prelude.{Ok, Err}
 use Rattle.words.specs.declared.Outcome.{Outcome}
-use Rattle.words.specs.Limits.{most_time}
-use Rattle.words.proofs.Left.{left_suc}
+use Rattle.words.proofs.Left.{left_suc, left_zero}
 use Rattle.fields.specs.Field.{outside}
-use Rattle.fields.specs.inner.Field.{field_at, taking}
+use Rattle.fields.specs.inner.Field.{taking}
 use Rattle.fields.specs.declared.Cursor.{Cursor}
+use Rattle.sheet.specs.Checks.{is_gap}
 use Rattle.sheet.specs.Reading.{blank, sheet_refused, read_sheet}
 use Rattle.sheet.specs.declared.Sheet.{Sheet}
 use Rattle.sheet_table.specs.inner.Parts.{part}
 use Rattle.sheet_filling.specs.inner.Filled.{sheet_in, with_gaps}
 use Rattle.opening.specs.inner.Opening.{opening_at}
-use Rattle.sheet_reader.specs.inner.Scan.{with_zones, zones_from, scan}
+use Rattle.sheet_reader.specs.inner.Scan.{with_zones, count_from, zones_from, scan}
 use Rattle.sheet_reader.proofs.Agrees.{scan_agrees}
 
 -- a table of zeros holds no gap, no cart and no step
@@ -33,8 +32,14 @@ module _ (s : List ℕ) where
   unfolding scan
   begins n c t e q = sym (scan_agrees s) ∙ rw (e, q) (ap (λ (sh : Sheet). zones_from s n 0 sh c.at) (blank_is n))
 
-  pub zones_next : (n z : ℕ) (sh put : Sheet) (at : ℕ) (c c2 c3 : Cursor) (follow cross : ℕ) → z < n → c ≡ outside at → field_at s 2 c ≡ Some (follow, c2) →
-      follow ≤ most_time → field_at s 2 c2 ≡ Some (cross, c3) → cross ≤ most_time → put ≡ with_gaps sh z follow cross → zones_from s (n - z) z sh at ≡ zones_from
-      s (n - (z + 1)) (z + 1) put c3.at
-  unfolding zones_from taking
-  zones_next n z sh put at c c2 c3 follow cross l here e h e2 h2 q = rw (left_suc n z l, ← here, e, le-leb _ _ h, e2, le-leb _ _ h2, q)
+  module _ (n z : ℕ) (sh : Sheet) (at : ℕ) where
+    pub zones_turn : z < n → zones_from s (n - z) z sh at ≡
+        (taking sheet_refused 1 s 2 (outside at) 5 is_gap λ follow c2.
+        taking sheet_refused 1 s 2 c2 5 is_gap λ cross c3.
+        zones_from s (n - (z + 1)) (z + 1) (with_gaps sh z follow cross) c3.at)
+    unfolding zones_from
+    zones_turn l = rw (left_suc n z l)
+
+    pub zones_end : n ≤ z → zones_from s (n - z) z sh at ≡ count_from s sh at
+    unfolding zones_from
+    zones_end l = rw (left_zero n z l)

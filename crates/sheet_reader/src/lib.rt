@@ -24,6 +24,7 @@ pub struct Counts {
 }
 
 // The gaps of n zones into a sheet that has no carts yet, and the cart count; answers it with the place after it.
+#[tactic(auto, using(fields::proofs::TakingLaws::ways_on, crate::proofs::Parts::zones_turn, crate::proofs::Parts::zones_end), unfolding(crate::specs::inner::Scan::count_from))]
 fn read_counts(
     s: &[u8],
     start: usize,

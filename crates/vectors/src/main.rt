@@ -105,6 +105,7 @@ impl Line {
         }
     }
 
+    // Takes the next character: the line's end, a mark, a digit, or one that is passed over.
     fn take(&mut self, rt: &impl Print, c: u8) -> io::Result<()> {
         match c {
             b'\n' => self.end(rt)?,

@@ -23,8 +23,8 @@ no_moves = record {
   at = replicate 16 0;
   left = replicate 24 0;
   leave = replicate 384 0;
-  enter = replicate 128 0;
   order = replicate 144 0;
+  enter = replicate 128 0;
   made = 0;
 }
 

@@ -5,11 +5,11 @@ use Rattle.sets.proofs.Laws.{ones_passing}
 use Rattle.moving_asking.proofs.not_gone.Goals as goal
 
 pub offset_bounds-left-z : goal.offset_bounds-left-z
-offset_bounds-left-z c = omega (arith, rw (← c.wide.ensures.0, ← c.zone-z.ensures) at c.requires.known)
+offset_bounds-left-z c = omega (arith, rw (← c.from.ensures, ← c.zone-z.ensures) at c.requires.known)
 
 pub bounds-left-z : goal.bounds-left-z
-bounds-left-z c = omega (arith, rw (← c.wide.ensures.0, ← c.zone-z.ensures) at c.requires.known)
+bounds-left-z c = omega (arith, rw (← c.from.ensures, ← c.zone-z.ensures) at c.requires.known)
 
 pub returns : goal.returns
 returns c = c.count.ensures ∙ ones_passing 16 _ _ (omega (arith, c.less.type_inv))
-    (λ i _. rw (c.zone-z.ensures, c.wide.ensures.0) at (c.less.ensures i))
+    (λ i _. rw (c.zone-z.ensures, c.from.ensures) at (c.less.ensures i))

@@ -1,18 +1,18 @@
 -- A sheet and a plan's orders in tables, as they were read: what a request over them asks and says, whatever lists the orders have.
-use Rattle.std.specs.Prelude.{ℕ, ◌≡◌, List}
+use Rattle.std.specs.Prelude.{ℕ, ◌≡◌, List, Result, IfOk}
 use Rattle.sheet.specs.Valid.{Valid}
 use Rattle.plan.specs.Valid.{ValidOrders}
 use Rattle.plan_reader.specs.inner.Scan.{orders_in}
 use Rattle.sheet_filling.specs.inner.Filled.{sheet_in}
 use Rattle.moving_record.specs.declared.Record.{Record}
 use Rattle.words.specs.Checks.{done, first_failing}
+use Rattle.words.specs.inner.Checks.{Leaves}
 use Rattle.words.specs.declared.Outcome.{Outcome}
 use Rattle.sheet.specs.declared.Sheet.{Sheet}
 use Rattle.plan.specs.declared.Orders.{Orders}
 use Rattle.crossing.specs.inner.Tables.{crossing_of}
 use Rattle.judge_one_move.specs.inner.Standing.{Standing}
 use Rattle.moving_asking.specs.declared.Asked.{Asked}
-use Rattle.moving_asking.specs.declared.CartTested.{CartTested}
 use Rattle.moving_asking.specs.Asking.{has_moved, record_checks, request_checks, not_moved}
 
 module _ (sheet : Sheet) (orders : Orders) (lent : Record) (cart : ℕ) where
@@ -32,11 +32,11 @@ module _ (table ahead : List ℕ) (carts : ℕ) where
     pub valid : Valid (sheet_in zones carts table)
     pub valid_orders : ValidOrders (sheet_in zones carts table) (orders_in count list ahead)
 
-  -- the outcome; and where it is done, for each zone the carts that have left it
-  pub record TestedIn (lent : Record) (cart : ℕ) (tested : CartTested) : Type 0 where
+  -- the refusal; or no check fails, and the answer is for each zone the carts that have left it
+  pub record TestedIn (lent : Record) (cart : ℕ) (tested : Result (List ℕ) Outcome) : Type 0 where
     pub outcome_is : (zones : ℕ) (count list : List ℕ) → Valid (sheet_in zones carts table) → ValidOrders (sheet_in zones carts table) (orders_in count list ahead)
-        → tested.outcome ≡ tested_of (sheet_in zones carts table) (orders_in count list ahead) lent cart
-    pub standing : tested.outcome.number ≡ 0 → Standing (crossing_of table ahead) lent.position tested.left
+        → Leaves (λ outcome. outcome) (tested_of (sheet_in zones carts table) (orders_in count list ahead) lent cart) (λ _. done) tested
+    pub standing : IfOk tested (Standing (crossing_of table ahead) lent.position)
 
   abbrev pub AskedIn : Record → ℕ → Asked → Type 0
   AskedIn lent cart answer =

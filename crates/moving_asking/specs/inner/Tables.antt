@@ -1,15 +1,11 @@
 -- The carts ahead and not gone, and the lane's hold, over tables: at 8 * c + j stand the zone of step j of cart c and the set of the carts ahead of it.
-use Rattle.std.specs.Prelude.{ℕ, ◌+◌, ◌*◌, ◌<◌, not, ◌&&◌, List, get_or, replicate}
+use Rattle.std.specs.Prelude.{ℕ, ◌+◌, ◌*◌, ◌<◌, not, ◌&&◌, List, get_or}
 use Rattle.words.specs.declared.Outcome.{Outcome}
 use Rattle.sets.specs.inner.Member.{has}
 use Rattle.sets.specs.Counting.{bit, count_below}
 use Rattle.routes.specs.Crossing.{Crossing}
 use Rattle.routes.specs.Lanes.{lane_holds}
 use Rattle.moving_asking.specs.declared.Asked.{Asked}
-use Rattle.moving_asking.specs.declared.CartTested.{CartTested}
-
-abbrev pub untested : Outcome → CartTested
-untested outcome = record { outcome = outcome; left = replicate 24 0 }
 
 abbrev pub no_move : Outcome → ℕ → Asked
 no_move outcome ahead = record { outcome = outcome; position = 0; made = 0; ahead = ahead }

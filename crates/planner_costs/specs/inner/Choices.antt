@@ -9,10 +9,10 @@ use Rattle.removal.specs.Cost.{Costed, level}
 use Rattle.planner_costs.specs.inner.Largest.{IsLargest}
 use Rattle.planner_costs.specs.inner.Tables.{Tables, tables_of, InRange, wins_tie, order_at, CandidateBelow, Costable}
 use Rattle.planner_costs.specs.declared.Choice.{Choice}
-use Rattle.planner_costs.specs.declared.Facts.{Facts}
+use Rattle.planner_costs.specs.declared.CostFacts.{CostFacts}
 
 -- the tables that the facts lend
-abbrev pub tables_in : Facts → Tables
+abbrev pub tables_in : CostFacts → Tables
 tables_in f = tables_of (parts.zone f.sheet.now) (parts.cross f.sheet.now) (parts.passing f.sheet.now) f.rank.now f.visit.now
     f.undecided.now f.enter.now f.spare.now
 

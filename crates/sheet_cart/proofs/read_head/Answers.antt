@@ -1,63 +1,9 @@
--- Each way out rewrites with the fields that are there and the tests that they pass, in the order of the fields.
+-- A way out rewrites with the fields that are there and the tests that they pass; rattle finds the others so.
 use mathlib.Core.Path.{sym, ◌∙◌}
 use borrow.Author.Tests.{le-leb, lt-leb}
 use Rattle.fields.specs.inner.Field.{taking}
 use Rattle.sheet_cart.specs.inner.Parts.{head_at}
 use Rattle.sheet_cart.proofs.read_head.Goals as goal
-
-pub returns-in_default : goal.returns-in_default
-unfolding head_at taking
-returns-in_default c = rw (c.refused_at.ensures, sym c.one_byte.ensures ∙ c.in_default.is)
-
-pub returns-then-lane-gt15 : goal.returns-then-lane-gt15
-unfolding head_at taking
-returns-then-lane-gt15 c = rw (
-  c.refused_at-then-lane-gt15.ensures,
-  sym c.one_byte.ensures ∙
-      c.in-Some.is,
-  lt-leb _ _ c.if-lane-gt15.true,
-)
-
-pub returns-in_default-four_bytes : goal.returns-in_default-four_bytes
-unfolding head_at taking
-returns-in_default-four_bytes c = rw (
-  c.refused_at-in_default-four_bytes.ensures,
-  sym c.one_byte.ensures ∙
-      c.in-Some.is,
-  le-leb _ _ c.if-lane-gt15.false,
-  sym
-      c.four_bytes.ensures ∙ c.in_default-four_bytes.is,
-)
-
-pub returns-then-arrival-gt-LATEST_ARRIVAL : goal.returns-then-arrival-gt-LATEST_ARRIVAL
-unfolding head_at taking
-returns-then-arrival-gt-LATEST_ARRIVAL c = rw (
-  c.refused_at-then-arrival-gt-LATEST_ARRIVAL.ensures,
-  sym c.one_byte.ensures ∙
-      c.in-Some.is,
-  le-leb _ _
-      c.if-lane-gt15.false,
-  sym c.four_bytes.ensures ∙
-      c.in-Some-four_bytes.is,
-  lt-leb _ _ c.if-arrival-gt-LATEST_ARRIVAL.true,
-)
-
-pub returns-in_default-one_byte : goal.returns-in_default-one_byte
-unfolding head_at taking
-returns-in_default-one_byte c = rw (
-  c.refused_at-in_default-one_byte.ensures,
-  sym
-      c.one_byte.ensures
-      ∙ c.in-Some.is,
-  le-leb _ _
-      c.if-lane-gt15.false,
-  sym
-      c.four_bytes.ensures
-      ∙ c.in-Some-four_bytes.is,
-  le-leb _ _ c.if-arrival-gt-LATEST_ARRIVAL.false,
-  sym
-      c.one_byte-2.ensures ∙ c.in_default-one_byte.is,
-)
 
 pub returns-then-steps-lt1 : goal.returns-then-steps-lt1
 unfolding head_at taking

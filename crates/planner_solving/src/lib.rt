@@ -12,40 +12,28 @@ ghost use Rattle.planner_trials.specs.inner.Trying.{Triable};
 ghost use Rattle.planner_solving.specs.inner.Solving.{Solves};
 
 use planner_groups::start_orders;
+use planner_orders::Present;
 use planner_ranks::ranks;
-use planner_trials::try_group;
+use planner_spare::rears;
+use planner_trials::{Known, try_group};
 use planner_visiting::visit_places;
 use sheet_table::Table;
 
 // The group of the ranks from `low` on, below `high`, is solved: where its trial fails, each half is, lower ranks first.
 // A group of one rank has no pair, so its trial does not fail: of 16 carts at most four levels have pairs.
-fn solve(
-    sheet: &Table,
-    ranks: &[u8; 16],
-    pairs: &[u16; 128],
-    visit: &[u8; 384],
-    ahead: &mut [u16; 128],
-    behind: &mut [u16; 128],
-    undecided: &mut [u16; 128],
-    low: usize,
-    high: usize,
-)
-    requires { Triable sheet.now ranks.now pairs.now visit.now low high ahead.old behind.old undecided.old }
-    ensures { Solves sheet.now ranks.now pairs.now visit.now low high ahead.old
-        behind.old undecided.old ahead.new behind.new undecided.new }
+fn solve(known: &Known, present: &mut Present, low: usize, high: usize)
+    requires { Triable known.now.sheet.now known.now.ranks known.now.pairs known.now.visit low high present.old.ahead
+        present.old.behind present.old.undecided }
+    ensures { Solves known.now.sheet.now known.now.ranks known.now.pairs known.now.visit low high
+        present.old.ahead present.old.behind present.old.undecided present.new.ahead present.new.behind
+        present.new.undecided }
 {
-    if try_group(
-        sheet, ranks, pairs, visit, ahead, behind, undecided, low, high,
-    ) {
+    if try_group(known, present, low, high) {
         return;
     }
     let mid = low + (high - low) / 2;
-    solve(
-        sheet, ranks, pairs, visit, ahead, behind, undecided, low, mid,
-    );
-    solve(
-        sheet, ranks, pairs, visit, ahead, behind, undecided, mid, high,
-    );
+    solve(known, present, low, mid);
+    solve(known, present, mid, high);
 }
 
 // A valid sheet's orders when the group of all ranks is solved: for each step the carts ahead. The sheet has m carts; `visitors` are the zones'.
@@ -53,23 +41,14 @@ pub fn solve_sheet(sheet: &Table, visitors: &[u16; 24], m: usize) -> [u16; 128]
     requires { ((n : ℕ) × Valid (sheet_in n m sheet.now)) × (visitors.now ≡ who_visits (steps sheet.now) (zone sheet.now)) }
     ensures { (n : ℕ) → Valid (sheet_in n m sheet.now) → StandsBy by_removal sheet.now n m result }
 {
-    let ranked = ranks(sheet, m);
-    let visit = visit_places(sheet);
-    let mut ahead = [0u16; 128];
-    let mut behind = [0u16; 128];
-    let mut undecided = [0u16; 128];
-    let mut pairs = [0u16; 128];
-    start_orders(sheet, visitors, &mut ahead, &mut behind, &mut pairs);
-    solve(
+    let (mut present, pairs) = start_orders(sheet, visitors);
+    let known = Known {
         sheet,
-        &ranked,
-        &pairs,
-        &visit,
-        &mut ahead,
-        &mut behind,
-        &mut undecided,
-        0,
-        m,
-    );
-    ahead
+        ranks: ranks(sheet, m),
+        pairs,
+        visit: visit_places(sheet),
+        rears: rears(sheet),
+    };
+    solve(&known, &mut present, 0, m);
+    present.ahead
 }

@@ -23,9 +23,11 @@ use Rattle.planner_orders.specs.inner.Holds.{Holds}
 use Rattle.planner_orders.specs.inner.Deciding as tables
 use Rattle.planner_orders.proofs.Added.{undecided_turned}
 use Rattle.planner_trials.specs.inner.Trying.{Told}
-use Rattle.judge_verdict.specs.inner.Verdict.{Runs, Runnable}
-use Rattle.planner_trials.specs.inner.Turns.{order_of, Candidate, Underway, Decided}
-use Rattle.judge_verdict.specs.declared.Verdict.{Verdict}
+use Rattle.judge_verdict.specs.inner.Verdict.{Runs}
+use Rattle.crossing.specs.inner.Sound.{Sound}
+use Rattle.planner_trials.specs.inner.Turns.{order_of, comes_out, Candidate, Underway, Decided}
+use Rattle.judge_one_move.specs.declared.Run.{Run}
+use Rattle.std.specs.Prelude.{None, Some}
 use Rattle.planner_trials.proofs.Told.{step_is, told_sound, run_says, undecided_step}
 
 module _ (U : Unplanned) (low high : ℕ) (decided : List Order) (o : Order) where
@@ -104,7 +106,7 @@ module _ (sheet visit ahead behind undecided : List ℕ) (step first : ℕ)
   abbrev taken : Order
   taken = order_of (parts.zone sheet) step first
 
-  abbrev Answers : List ℕ → List ℕ → List ℕ → List ℕ → List ℕ → Verdict → Type 0
+  abbrev Answers : List ℕ → List ℕ → List ℕ → Run → Option ℕ → Type 0
   Answers = Decided sheet visit ahead behind undecided step first
 
   module _ (ranks pairs : List ℕ) (U : Unplanned) (low high : ℕ) (decided : List Order)
@@ -117,38 +119,34 @@ module _ (sheet visit ahead behind undecided : List ℕ) (step first : ℕ)
     opposite_held : Holds U low high (opposite taken ∷ decided) ahead₁ behind₁ undecided₁
     opposite_held = decides.holds U low high decided (opposite taken) opposite_candidate holds
 
-    says : (ahead' behind' : List ℕ) (all : List Order) → Holds U low high all ahead' behind' undecided₁ → (enter order : List ℕ) (run : Verdict)
-        → Runs (crossing_of sheet ahead') G enter order run → is_out (present U low high all) ≡ run.out
-    says ahead' behind' all held enter order run runs =
-        run_says sheet ranks pairs visit ahead' behind' undecided₁ enter order run runs U told low high all held
+    says : (ahead' behind' : List ℕ) (all : List Order) → Holds U low high all ahead' behind' undecided₁ → (run : Run) (stuck : Option ℕ)
+        → Runs (crossing_of sheet ahead') G run stuck → is_out (present U low high all) ≡ comes_out stuck
+    says ahead' behind' all held run stuck runs =
+        run_says sheet ranks pairs visit ahead' behind' undecided₁ run stuck runs U told low high all held
 
   module _ (trial : (ranks : List ℕ) × (pairs : List ℕ) × Underway sheet ranks pairs visit ahead behind undecided) where
-    pub opposite_runnable : (order : List ℕ) → length order ≡ 144 → Runnable (crossing_of sheet ahead₁) G order
-    opposite_runnable order long =
+    pub opposite_sound : Sound (crossing_of sheet ahead₁) G
+    opposite_sound =
         let (ranks, pairs, t) = trial in
-        record {
-          sound =
-              told_sound sheet ranks pairs visit ahead₁ behind₁ undecided₁ t.U t.told t.low t.high _
-              (opposite_held ranks pairs t.U t.low t.high t.decided t.told t.holds);
-          order_144 = long;
-        }
+        told_sound sheet ranks pairs visit ahead₁ behind₁ undecided₁ t.U t.told t.low t.high _
+        (opposite_held ranks pairs t.U t.low t.high t.decided t.told t.holds)
 
-  module _ (enter order : List ℕ) (run : Verdict) (runs : Runs (crossing_of sheet ahead₁) G enter order run) where
+  module _ (run : Run) (stuck : Option ℕ) (runs : Runs (crossing_of sheet ahead₁) G run stuck) where
     -- "Decide the opposite."
-    pub opposite_decided : run.out ≡ true → Answers ahead₁ behind₁ undecided₁ enter order run
+    pub opposite_decided : comes_out stuck ≡ true → Answers ahead₁ behind₁ undecided₁ run stuck
     opposite_decided out = record {
       runs = runs;
       decides = λ ranks pairs U low high decided told holds.
           let held = opposite_held ranks pairs U low high decided told holds in
-          let is = says ranks pairs U low high decided told holds ahead₁ behind₁ _ held enter order run runs in
+          let is = says ranks pairs U low high decided told holds ahead₁ behind₁ _ held run stuck runs in
           record {
             one_more = λ _. (opposite taken ∷ decided, (decide_opposite U low high decided taken (is ∙ out), held));
-            fails = λ stuck. absurd (true≢false (sym out ∙ stuck));
+            fails = λ e. absurd (true≢false (sym out ∙ e));
           };
     }
 
     -- "If the moves now have a cycle, decide this direction instead. If that has one too," the trial has failed
-    module _ (stuck : run.out ≡ false) (ahead₂ behind₂ : List ℕ)
+    module _ (was_stuck : comes_out stuck ≡ false) (ahead₂ behind₂ : List ℕ)
         (turns : tables.TurnsRound (get_or visit (16 * get_or (parts.zone sheet) step 0 + first) 0) step ahead₁ behind₁ ahead₂ behind₂) where
       this_held : (ranks pairs : List ℕ) (U : Unplanned) (low high : ℕ) (decided : List Order)
           → Told U sheet ranks pairs visit
@@ -157,24 +155,20 @@ module _ (sheet visit ahead behind undecided : List ℕ) (step first : ℕ)
           turns.holds U low high decided (opposite taken) undecided₁ (opposite_candidate ranks pairs U low high decided told holds)
           (opposite_held ranks pairs U low high decided told holds)
 
-      pub this_runnable : (trial : (ranks : List ℕ) × (pairs : List ℕ) × Underway sheet ranks pairs visit ahead behind undecided)
-          → Runnable (crossing_of sheet ahead₂) G order
-      this_runnable (ranks, pairs, t) = record {
-        sound =
-            told_sound sheet ranks pairs visit ahead₂ behind₂ undecided₁ t.U t.told t.low t.high _
-            (this_held ranks pairs t.U t.low t.high t.decided t.told t.holds);
-        order_144 = runs.settled.order_144;
-      }
+      pub this_sound : (trial : (ranks : List ℕ) × (pairs : List ℕ) × Underway sheet ranks pairs visit ahead behind undecided)
+          → Sound (crossing_of sheet ahead₂) G
+      this_sound (ranks, pairs, t) =
+          told_sound sheet ranks pairs visit ahead₂ behind₂ undecided₁ t.U t.told t.low t.high _
+          (this_held ranks pairs t.U t.low t.high t.decided t.told t.holds)
 
-      pub this_decided : (enter' order' : List ℕ) (again : Verdict) → Runs (crossing_of sheet ahead₂) G enter' order' again
-          → Answers ahead₂ behind₂ undecided₁ enter' order' again
-      this_decided enter' order' again runs-again = record {
+      pub this_decided : (again : Run) (stuck' : Option ℕ) → Runs (crossing_of sheet ahead₂) G again stuck' → Answers ahead₂ behind₂ undecided₁ again stuck'
+      this_decided again stuck' runs-again = record {
         runs = runs-again;
         decides = λ ranks pairs U low high decided told holds.
             let held = this_held ranks pairs U low high decided told holds in
-            let was = says ranks pairs U low high decided told holds ahead₁ behind₁ _ (opposite_held ranks pairs U low high decided told holds) enter
-            order run runs ∙ stuck in
-            let is = says ranks pairs U low high decided told holds ahead₂ behind₂ _ held enter' order' again runs-again in
+            let was = says ranks pairs U low high decided told holds ahead₁ behind₁ _ (opposite_held ranks pairs U low high decided told holds)
+            run stuck runs ∙ was_stuck in
+            let is = says ranks pairs U low high decided told holds ahead₂ behind₂ _ held again stuck' runs-again in
             record {
               one_more = λ out. (taken ∷ decided, (decide_this U low high decided taken was true (is ∙ out), held));
               fails = λ again-stuck. decide_this U low high decided taken was false (is ∙ again-stuck);

@@ -15,10 +15,12 @@ use Rattle.planner_orders.specs.inner.Holds.{Holds}
 use Rattle.planner_orders.proofs.Groups.{leaves_group, solved_below}
 use Rattle.planner_groups.specs.inner.Opening.{Opens}
 use Rattle.planner_trials.specs.inner.Trying.{Told, Solved, Triable, Tries}
-use Rattle.judge_verdict.specs.inner.Verdict.{Runs, Runnable}
+use Rattle.judge_verdict.specs.inner.Verdict.{Runs}
+use Rattle.crossing.specs.inner.Sound.{Sound}
 use Rattle.planner_trials.specs.inner.Turns.{OnTrial, AllTried, OpenedTried}
-use Rattle.judge_verdict.specs.declared.Verdict.{Verdict}
-use Rattle.planner_trials.proofs.Told.{told_sound, run_says}
+use Rattle.judge_one_move.specs.declared.Run.{Run}
+use Rattle.std.specs.Prelude.{Option}
+use Rattle.planner_trials.proofs.Told.{told_sound, run_says, none_out}
 
 module _ (sheet ranks pairs visit : List ℕ) (low high : ℕ) (ahead₀ behind₀ undecided₀ : List ℕ)
     (triable : Triable sheet ranks pairs visit low high ahead₀ behind₀ undecided₀) where
@@ -37,24 +39,19 @@ module _ (sheet ranks pairs visit : List ℕ) (low high : ℕ) (ahead₀ behind�
     abbrev held : Holds triable.U low high triable.decided ahead behind undecided
     held = opened triable.U triable.told triable.decided triable.solved
 
-    pub opened_runnable : (order : List ℕ) → length order ≡ 144 → Runnable (crossing_of sheet ahead) G order
-    opened_runnable order long = record {
-      sound = told_sound sheet ranks pairs visit ahead behind undecided triable.U triable.told low high triable.decided held;
-      order_144 = long;
-    }
+    pub opened_sound : Sound (crossing_of sheet ahead) G
+    opened_sound = told_sound sheet ranks pairs visit ahead behind undecided triable.U triable.told low high triable.decided held
 
     -- all come out at the start
-    pub opened_trial : (enter order : List ℕ) (run : Verdict) → Runs (crossing_of sheet ahead) G enter order run
-        → OnTrial sheet ranks visit ahead behind undecided enter order run
-    opened_trial enter order run runs = record {
+    pub opened_trial : (run : Run) (stuck : Option ℕ) → Runs (crossing_of sheet ahead) G run stuck → OnTrial sheet ranks visit ahead behind undecided run
+    opened_trial run stuck runs = record {
       pairs = pairs;
       underway = record { U = triable.U; low = low; high = high; decided = triable.decided; told = triable.told; holds = held };
-      runs_out = record {
-        runs = runs;
-        comes_out =
-            sym (run_says sheet ranks pairs visit ahead behind undecided enter order run runs triable.U triable.told low high triable.decided held)
-            ∙ group_starts triable.U triable.told.sheet_sized.able low high triable.decided triable.rising triable.solved.below;
-      };
+      runs_out =
+          let out =
+              sym (run_says sheet ranks pairs visit ahead behind undecided run stuck runs triable.U triable.told low high triable.decided held)
+              ∙ group_starts triable.U triable.told.sheet_sized.able low high triable.decided triable.rising triable.solved.below in
+          rw (none_out stuck out) at runs;
     }
 
     pub opened_tried : (ahead' behind' undecided' : List ℕ) (found : Bool)

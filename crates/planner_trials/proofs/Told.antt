@@ -27,13 +27,20 @@ use Rattle.planner_orders.proofs.Settled.{present_system, present_sound, present
 use Rattle.planner_costs.specs.inner.Tables.{route, Tabled, HoldsUndecided}
 use Rattle.planner_trials.specs.inner.Trying.{Told}
 use Rattle.judge_verdict.specs.inner.Verdict.{Runs}
-use Rattle.judge_verdict.specs.declared.Verdict.{Verdict}
+use Rattle.judge_one_move.specs.declared.Run.{Run}
+use Rattle.std.specs.Prelude.{Option, Some, None}
+use Rattle.planner_trials.specs.inner.Turns.{comes_out}
 
 -- two tests that hold together are the same
 same_test : (a b : Bool) → (a ≡ true) ↔ (b ≡ true) → a ≡ b
 same_test true b h = sym (h.0 refl)
 same_test false true h = h.1 refl
 same_test false false h = refl
+
+-- where all come out none is stuck
+pub none_out : (stuck : Option ℕ) → comes_out stuck ≡ true → stuck ≡ None
+none_out None e = refl
+none_out (Some c) e = absurd (true≢false (sym e))
 
 module _ (sheet ranks pairs visit : List ℕ) where
   abbrev IsTold : Unplanned → Type 0
@@ -98,15 +105,15 @@ module _ (sheet ranks pairs visit : List ℕ) where
         U told
 
     -- the run tells whether all come out over the orders present
-    pub run_says : (enter order : List ℕ) (run : Verdict) → Runs (crossing_of sheet ahead) G enter order run
+    pub run_says : (run : Run) (stuck : Option ℕ) → Runs (crossing_of sheet ahead) G run stuck
         → (U : Unplanned) → IsTold U → (low high : ℕ) (decided : List Order) → Holds U low high decided ahead behind undecided
-        → is_out (present U low high decided) ≡ run.out
-    run_says enter order run runs =
-        on_tables (λ U. (low high : ℕ) (decided : List Order) → Holds U low high decided ahead behind undecided → is_out (present U low high decided) ≡ run.out)
+        → is_out (present U low high decided) ≡ comes_out stuck
+    run_says run stuck runs =
+        on_tables (λ U. (low high : ℕ) (decided : List Order) → Holds U low high decided ahead behind undecided → is_out (present U low high decided) ≡ comes_out stuck)
         (λ zones carts low high decided holds.
         let same = ap (λ (S : System). S.out) (present_system _ _ _ _ _ _ _ _ zones carts low high decided ahead behind undecided holds) in
         let says = present_out _ _ _ _ _ _ _ _ zones carts low high decided ahead behind undecided holds _ _ _ _ _ runs.settled in
-        same_test _ _ (λ e. runs.out.1 (says.0 e ∙ sym same), λ e. says.1 (runs.out.0 e ∙ same)))
+        same_test _ _ (λ e. ap comes_out (runs.out.1 (says.0 e ∙ sym same)), λ e. says.1 (runs.out.0 (none_out stuck e) ∙ same)))
 
 -- the table holds what is undecided in a group
 module _ (U : Unplanned) (low high : ℕ) (decided : List Order) (ahead behind undecided : List ℕ) (holds : Holds U low high decided ahead behind undecided) where

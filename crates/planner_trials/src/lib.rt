@@ -1,162 +1,119 @@
 // The trial of a group of ranks: orders of its pairs are decided one by one, each kept only where all carts still come out.
 #![tactic(auto)]
 
-ghost use Rattle.std.specs.Prelude.{◌≡◌};
 ghost use Rattle.planner_spare.specs.inner.Rears.{rears_of};
 ghost use Rattle.planner_trials.specs.inner.Trying.{Triable, Tries};
 ghost use Rattle.planner_trials.specs.inner.Turns.{Choosable, Chosen, Decidable, Decided, OnTrial, AllTried, OpenedTried};
 
 use judge_finish::finish_of;
-use judge_verdict::{Verdict, verdict_of};
-use planner_costs::{Choice, largest_cost};
+use judge_one_move::Run;
+use judge_verdict::verdict_of;
+use planner_costs::{Choice, Facts, largest_cost};
 use planner_groups::open_group;
-use planner_orders::{decide, turn_round};
-use planner_spare::{rears, spare_times};
+use planner_orders::Present;
+use planner_spare::spare_times;
 use sheet_table::Table;
 
-// The order of largest cost among the undecided pairs, by the times of the run.
-fn choose(
-    sheet: &Table,
-    rears: &[u8; 16],
-    ranks: &[u8; 16],
-    visit: &[u8; 384],
-    behind: &[u16; 128],
-    undecided: &[u16; 128],
-    enter: &[u32; 128],
-    order: &[u8; 144],
-    run: Verdict,
-) -> Choice
-    requires { Choosable sheet.now ranks.now visit.now behind.now undecided.now enter.now order.now run
-        × (rears.now ≡ rears_of sheet.now) }
-    ensures { Chosen sheet.now ranks.now visit.now behind.now undecided.now
-        enter.now order.now run result }
-{
-    let made = run.made;
-    let finish = finish_of(sheet, enter);
-    let mut spare = [0u32; 128];
-    spare_times(
-        sheet, rears, behind, visit, enter, order, made, finish, &mut spare,
-    );
-    largest_cost(sheet, ranks, visit, undecided, enter, &spare)
+// What is worked out once for a sheet that is planned: each cart's rank, for each step the carts with which it is a pair,
+// where each cart's step in each zone stands, and for each cart the lane's next one behind it.
+#[derive(Clone, Copy)]
+pub struct Known<'a> {
+    pub sheet: &'a Table,
+    pub ranks: [u8; 16],
+    pub pairs: [u16; 128],
+    pub visit: [u8; 384],
+    pub rears: [u8; 16],
+    ghost rears_are: { rears ≡ rears_of sheet.now },
 }
 
-// The opposite of cart `first` before the cart of the step at `step` is decided; where carts are stuck then, this direction instead.
-fn decide_either(
-    sheet: &Table,
-    visit: &[u8; 384],
-    ahead: &mut [u16; 128],
-    behind: &mut [u16; 128],
-    undecided: &mut [u16; 128],
-    enter: &mut [u32; 128],
-    order: &mut [u8; 144],
-    step: usize,
-    first: usize,
-) -> Verdict
-    requires { Decidable sheet.now visit.now ahead.old behind.old undecided.old step first order.old }
-    ensures { Decided sheet.now visit.now ahead.old behind.old undecided.old step first
-        ahead.new behind.new undecided.new enter.new order.new result }
+// The order of largest cost among the undecided pairs, by the times of the run; none where no pair is undecided.
+fn choose(known: &Known, present: &Present, run: &Run) -> Option<Choice>
+    requires { Choosable known.now.sheet.now known.now.ranks known.now.visit present.now.behind present.now.undecided run.now }
+    ensures { Chosen known.now.sheet.now known.now.ranks known.now.visit present.now.behind
+        present.now.undecided run.now result }
 {
-    let other = visit[16 * sheet_table::zone(sheet, step) + first] as usize;
-    decide(ahead, behind, undecided, other, step);
-    let run = verdict_of(sheet, ahead, enter, order);
-    if run.out {
-        return run;
+    let finish = finish_of(known.sheet, &run.enter);
+    let mut spare = [0u32; 128];
+    spare_times(
+        known.sheet,
+        &known.rears,
+        &present.behind,
+        &known.visit,
+        &run.enter,
+        &run.order,
+        run.made,
+        finish,
+        &mut spare,
+    );
+    largest_cost(&Facts {
+        sheet: known.sheet,
+        rank: &known.ranks,
+        visit: &known.visit,
+        undecided: &present.undecided,
+        enter: &run.enter,
+        spare: &spare,
+    })
+}
+
+// The opposite of the chosen order is decided; where carts are stuck then, this direction instead. Answers who is stuck at the end, if anybody is.
+fn decide_either(known: &Known, present: &mut Present, run: &mut Run, choice: Choice) -> Option<usize>
+    requires { Decidable known.now.sheet.now known.now.visit present.old.ahead present.old.behind present.old.undecided
+        choice.step choice.first }
+    ensures { Decided known.now.sheet.now known.now.visit present.old.ahead present.old.behind
+        present.old.undecided choice.step choice.first present.new.ahead present.new.behind present.new.undecided run.new result }
+{
+    let step = choice.step;
+    let other = known.visit[16 * sheet_table::zone(known.sheet, step) + choice.first] as usize;
+    present.decide(other, step);
+    let stuck = verdict_of(known.sheet, &present.ahead, run);
+    if stuck.is_none() {
+        return stuck;
     }
-    turn_round(ahead, behind, other, step);
-    verdict_of(sheet, ahead, enter, order)
+    present.turn_round(other, step);
+    verdict_of(known.sheet, &present.ahead, run)
 }
 
 // While a pair is undecided an order is chosen and decided; tells whether all are decided, or neither direction of one came out.
-fn try_pairs(
-    sheet: &Table,
-    ranks: &[u8; 16],
-    visit: &[u8; 384],
-    ahead: &mut [u16; 128],
-    behind: &mut [u16; 128],
-    undecided: &mut [u16; 128],
-    enter: &mut [u32; 128],
-    order: &mut [u8; 144],
-    first: Verdict,
-) -> bool
-    requires { OnTrial sheet.now ranks.now visit.now ahead.old behind.old undecided.old enter.old order.old first }
-    ensures { AllTried sheet.now ranks.now visit.now ahead.old behind.old
-        undecided.old ahead.new behind.new undecided.new result }
+fn try_pairs(known: &Known, present: &mut Present, run: &mut Run) -> bool
+    requires { OnTrial known.now.sheet.now known.now.ranks known.now.visit present.old.ahead present.old.behind
+        present.old.undecided run.old }
+    ensures { AllTried known.now.sheet.now known.now.ranks known.now.visit present.old.ahead
+        present.old.behind present.old.undecided present.new.ahead present.new.behind present.new.undecided result }
 {
-    let rears = rears(sheet);
-    let mut run = first;
-    while run.out {
-        let choice = choose(
-            sheet, &rears, ranks, visit, behind, undecided, enter, order, run,
-        );
-        if !choice.found {
-            return true;
+    while let Some(choice) = choose(known, present, run) {
+        if decide_either(known, present, run, choice).is_some() {
+            return false;
         }
-        run = decide_either(
-            sheet,
-            visit,
-            ahead,
-            behind,
-            undecided,
-            enter,
-            order,
-            choice.step,
-            choice.first,
-        );
     }
-    false
+    true
 }
 
 // The group of the ranks from `low` on, below `high`, is opened, and its pairs are tried.
-fn try_opened(
-    sheet: &Table,
-    ranks: &[u8; 16],
-    pairs: &[u16; 128],
-    visit: &[u8; 384],
-    ahead: &mut [u16; 128],
-    behind: &mut [u16; 128],
-    undecided: &mut [u16; 128],
-    low: usize,
-    high: usize,
-) -> bool
-    requires { Triable sheet.now ranks.now pairs.now visit.now low high ahead.old behind.old undecided.old }
-    ensures { OpenedTried sheet.now ranks.now pairs.now visit.now low high ahead.old
-        behind.old undecided.old ahead.new behind.new undecided.new result }
+fn try_opened(known: &Known, present: &mut Present, low: usize, high: usize) -> bool
+    requires { Triable known.now.sheet.now known.now.ranks known.now.pairs known.now.visit low high present.old.ahead
+        present.old.behind present.old.undecided }
+    ensures { OpenedTried known.now.sheet.now known.now.ranks known.now.pairs known.now.visit low high
+        present.old.ahead present.old.behind present.old.undecided present.new.ahead present.new.behind
+        present.new.undecided result }
 {
-    open_group(ranks, pairs, ahead, behind, undecided, low, high);
-    let mut enter = [0u32; 128];
-    let mut order = [0u8; 144];
-    let run = verdict_of(sheet, ahead, &mut enter, &mut order);
-    try_pairs(
-        sheet, ranks, visit, ahead, behind, undecided, &mut enter, &mut order, run,
-    )
+    open_group(&known.ranks, &known.pairs, present, low, high);
+    let mut run = Run::start();
+    verdict_of(known.sheet, &present.ahead, &mut run);
+    try_pairs(known, present, &mut run)
 }
 
 // The trial of a group: the tables take its orders, or, where it fails, hold what they held.
-pub fn try_group(
-    sheet: &Table,
-    ranks: &[u8; 16],
-    pairs: &[u16; 128],
-    visit: &[u8; 384],
-    ahead: &mut [u16; 128],
-    behind: &mut [u16; 128],
-    undecided: &mut [u16; 128],
-    low: usize,
-    high: usize,
-) -> bool
-    requires { Triable sheet.now ranks.now pairs.now visit.now low high ahead.old behind.old undecided.old }
-    ensures { Tries sheet.now ranks.now pairs.now visit.now low high ahead.old
-        behind.old undecided.old ahead.new behind.new undecided.new result }
+pub fn try_group(known: &Known, present: &mut Present, low: usize, high: usize) -> bool
+    requires { Triable known.now.sheet.now known.now.ranks known.now.pairs known.now.visit low high present.old.ahead
+        present.old.behind present.old.undecided }
+    ensures { Tries known.now.sheet.now known.now.ranks known.now.pairs known.now.visit low high
+        present.old.ahead present.old.behind present.old.undecided present.new.ahead present.new.behind
+        present.new.undecided result }
 {
-    let old_ahead = *ahead;
-    let old_behind = *behind;
-    let old_undecided = *undecided;
-    if try_opened(
-        sheet, ranks, pairs, visit, ahead, behind, undecided, low, high,
-    ) {
+    let old = *present;
+    if try_opened(known, present, low, high) {
         return true;
     }
-    *ahead = old_ahead;
-    *behind = old_behind;
-    *undecided = old_undecided;
+    *present = old;
     false
 }

@@ -1,5 +1,5 @@
 -- The turns of a trial over tables: the run over the orders present, the choice of the order that is taken, and its decision.
-use Rattle.std.specs.Prelude.{ℕ, ◌/◌, ◌<◌, ◌≡◌, Bool, true, false, List, length, get_or}
+use Rattle.std.specs.Prelude.{ℕ, ◌/◌, ◌<◌, ◌≡◌, Bool, true, false, List, get_or, Option, Some, None}
 use Rattle.std.proofs.Math.Option.{none, some}
 use Rattle.sheet_table.specs.inner.Parts as parts
 use Rattle.sets.specs.inner.Member.{has}
@@ -13,12 +13,16 @@ use Rattle.planner_orders.specs.inner.Holds.{Holds}
 use Rattle.planner_costs.specs.declared.Choice.{Choice}
 use Rattle.planner_trials.specs.inner.Trying.{Told, Solved}
 use Rattle.judge_verdict.specs.inner.Verdict.{Runs}
-use Rattle.judge_verdict.specs.declared.Verdict.{Verdict}
+use Rattle.judge_one_move.specs.declared.Run.{Run}
 
 -- a run over the orders present in which all carts come out
-pub record RunsOut (X : Crossing) (G : Given) (enter order : List ℕ) (run : Verdict) : Type 0 where
-  pub runs : Runs X G enter order run
-  pub comes_out : run.out ≡ true
+abbrev pub RunsOut : Crossing → Given → Run → Type 0
+RunsOut X G run = Runs X G run None
+
+-- whether all carts come out, where none is stuck or one is
+abbrev pub comes_out : Option ℕ → Bool
+comes_out None = true
+comes_out (Some c) = false
 
 -- the order of cart `first` before the cart of the step at `step`, in the step's zone
 abbrev pub order_of : List ℕ → ℕ → ℕ → Order
@@ -31,9 +35,9 @@ pub record Candidate (undecided : List ℕ) (step first : ℕ) : Type 0 where
   pub still_undecided : has (get_or undecided step 0) first ≡ true
 
 -- "Take the direction of largest cost": what a choice tells of the turn, that no pair is left to decide, or which order is taken
-pub record Chooses (U : Unplanned) (low high : ℕ) (decided : List Order) (zone : List ℕ) (choice : Choice) : Type 0 where
-  pub none_left : choice.found ≡ false → turn U low high decided ≡ stop (some decided)
-  pub taken : choice.found ≡ true → turn U low high decided ≡ decide U low high decided (order_of zone choice.step choice.first)
+pub record Chooses (U : Unplanned) (low high : ℕ) (decided : List Order) (zone : List ℕ) (choice : Option Choice) : Type 0 where
+  pub none_left : choice ≡ None → turn U low high decided ≡ stop (some decided)
+  pub taken : (r : Choice) → choice ≡ Some r → turn U low high decided ≡ decide U low high decided (order_of zone r.step r.first)
 
 -- "Decide the opposite. If the moves now have a cycle, decide this direction instead.": the tables hold the order decided, or both directions have a cycle
 pub record Decides (U : Unplanned) (low high : ℕ) (decided : List Order) (o : Order) (ahead behind undecided : List ℕ) (out : Bool) : Type 0 where
@@ -62,40 +66,39 @@ module _ (sheet ranks pairs visit ahead behind undecided : List ℕ) where
       → Holds U low high decided ahead behind undecided → Claim U low high decided
 
 -- an order is chosen, whatever the tables are that it does not look at: what is asked, and what the choice tells
-module _ (sheet ranks visit behind undecided enter order : List ℕ) (run : Verdict) where
+module _ (sheet ranks visit behind undecided : List ℕ) (run : Run) where
   pub record Choosable : Type 0 where
     pub pairs : List ℕ
     pub ahead : List ℕ
     pub underway : Underway sheet ranks pairs visit ahead behind undecided
-    pub runs_out : RunsOut (crossing_of sheet ahead) (given_of sheet) enter order run
+    pub runs_out : RunsOut (crossing_of sheet ahead) (given_of sheet) run
 
-  pub record Chosen (choice : Choice) : Type 0 where
-    pub candidate : choice.found ≡ true → Candidate undecided choice.step choice.first
+  pub record Chosen (choice : Option Choice) : Type 0 where
+    pub candidate : (r : Choice) → choice ≡ Some r → Candidate undecided r.step r.first
     pub tells : (pairs ahead : List ℕ)
-        → RunsOut (crossing_of sheet ahead) (given_of sheet) enter order run
+        → RunsOut (crossing_of sheet ahead) (given_of sheet) run
         → OfAll sheet ranks pairs visit ahead behind undecided
         (λ U low high decided. Chooses U low high decided (parts.zone sheet) choice)
 
 -- one of its two directions is decided: what is asked, and what the run that follows tells
 module _ (sheet visit ahead behind undecided : List ℕ) (step first : ℕ) where
-  pub record Decidable (order : List ℕ) : Type 0 where
+  pub record Decidable : Type 0 where
     pub ranks : List ℕ
     pub pairs : List ℕ
     pub underway : Underway sheet ranks pairs visit ahead behind undecided
     pub candidate : Candidate undecided step first
-    pub order_144 : length order ≡ 144
 
-  pub record Decided (ahead' behind' undecided' enter order : List ℕ) (run : Verdict) : Type 0 where
-    pub runs : Runs (crossing_of sheet ahead') (given_of sheet) enter order run
+  pub record Decided (ahead' behind' undecided' : List ℕ) (run : Run) (stuck : Option ℕ) : Type 0 where
+    pub runs : Runs (crossing_of sheet ahead') (given_of sheet) run stuck
     pub decides : (ranks pairs : List ℕ) → OfAll sheet ranks pairs visit ahead behind undecided
-        (λ U low high decided. Decides U low high decided (order_of (parts.zone sheet) step first) ahead' behind' undecided' run.out)
+        (λ U low high decided. Decides U low high decided (order_of (parts.zone sheet) step first) ahead' behind' undecided' (comes_out stuck))
 
 -- orders are decided until no pair is left undecided: what is asked, and what the tables hold then
 module _ (sheet ranks visit ahead behind undecided : List ℕ) where
-  pub record OnTrial (enter order : List ℕ) (run : Verdict) : Type 0 where
+  pub record OnTrial (run : Run) : Type 0 where
     pub pairs : List ℕ
     pub underway : Underway sheet ranks pairs visit ahead behind undecided
-    pub runs_out : RunsOut (crossing_of sheet ahead) (given_of sheet) enter order run
+    pub runs_out : RunsOut (crossing_of sheet ahead) (given_of sheet) run
 
   pub record AllTried (ahead' behind' undecided' : List ℕ) (found : Bool) : Type 0 where
     pub ends : (pairs : List ℕ) → OfAll sheet ranks pairs visit ahead behind undecided

@@ -36,6 +36,7 @@ use Rattle.net_text.specs.Lines.{net_text, with_text}
 use Rattle.net_text.proofs.SameText.{text_same}
 use Rattle.net.specs.Netting.{not_netted, text_fits, RunOf, room_of, crossing_read, NetRunIs, room_after}
 use Rattle.net.specs.declared.NetRun.{NetRun}
+use Rattle.sheet_table.specs.declared.Table.{Table}
 
 one_or_none : (b : Bool) → from_bool b ≡ bit b
 one_or_none true = refl
@@ -138,7 +139,7 @@ module _ (s p room : List ℕ) where
       → NetRunIs s p (length room) (not_netted outcome) × (room ≡ room_after s p room)
   net_refused outcome some left = rw left at (refused_is s p room) (λ none. omega (arith, some))
 
-  pub net_read : (table : List ℕ) (orders : Orders) (counts : Counts) → BothRead s p table orders (Ok counts) → (r : NetRun) (after : List ℕ)
+  pub net_read : (table : Table) (orders : Orders) (counts : Counts) → BothRead s p table orders (Ok counts) → (r : NetRun) (after : List ℕ)
       → Runs (sheet_crossing (sheet_in counts.zones counts.carts table) orders.ahead) room r after → NetRunIs s p (length room) r × (after ≡ room_after s p room)
   net_read table orders counts left r after runs =
       rw left at (read_is s p room) refl r after

@@ -62,7 +62,7 @@ pub fn net(s: &[u8], p: &[u8], room: &mut [u8]) -> NetRun
     ensures answer { NetRunIs s.now p.now (length room.old) result }
     ensures holds { room.new ≡ room_after s.now p.now room.old }
 {
-    let mut sheet = [0; 480];
+    let mut sheet = Table::blank();
     let mut orders = no_orders();
     match read_tables(s, p, &mut sheet, &mut orders) {
         Ok(_) => net_orders(&sheet, &orders.ahead, room),

@@ -32,7 +32,7 @@ fn list_of(s: &[u8], p: &[u8], zone: usize) -> Result<ListFound, Outcome>
     ensures { MatchResult result (λ found. FoundIs s.now p.now zone found)
         (λ outcome. FoundIs s.now p.now zone (not_found outcome)) }
 {
-    let mut table = [0u32; 480];
+    let mut table = Table::blank();
     let mut orders = no_orders();
     let counts = read_tables(s, p, &mut table, &mut orders)?;
     if counts.zones <= zone {

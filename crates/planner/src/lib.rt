@@ -121,7 +121,7 @@ fn plan_by(rule: Rule, s: &[u8], room: &mut [u8]) -> Planned
     ensures answer { result ≡ plan_sheet rule s.now (length room.old) }
     ensures holds { room.new ≡ room_after rule s.now room.old }
 {
-    let mut sheet = [0u32; 480];
+    let mut sheet = Table::blank();
     let read = fill(s, &mut sheet);
     let outcome = read.outcome;
     if outcome.number != 0 {

@@ -35,6 +35,7 @@ use Rattle.planner_orders.proofs.Groups.{none_undecided}
 use Rattle.planner_groups.specs.inner.Pairs.{HasPairs}
 use Rattle.planner_groups.specs.inner.Starting.{visiting_at, Lent, Starts}
 use Rattle.planner_groups.proofs.Visitors.{visiting_says}
+use Rattle.sheet_table.specs.declared.Table.{Table}
 
 -- ---- the carts with lower numbers
 
@@ -100,7 +101,7 @@ parted who mates c apart own low later ahead behind apart-is own_is low-is later
 
 -- ---- place by place
 
-module _ (sheet visitors : List ℕ) where
+module _ (sheet : Table) (visitors : List ℕ) where
   -- the places below x are done
   pub record StartedTo (x : ℕ) (ahead behind pairs : List ℕ) : Type 0 where
     pub ahead_128 : length ahead ≡ 128
@@ -154,7 +155,7 @@ off_lane : (who other lane mate : Bool) → other ≡ true → (who ≡ true →
 off_lane false other lane mate o m = refl
 off_lane true other lane mate o m = rw (o, m refl)
 
-module _ (sheet visitors ahead behind pairs : List ℕ) (sheet-routes : Routes (parts.steps sheet) (parts.zone sheet))
+module _ (sheet : Table) (visitors ahead behind pairs : List ℕ) (sheet-routes : Routes (parts.steps sheet) (parts.zone sheet))
     (visitors_are : visitors ≡ who_visits (parts.steps sheet) (parts.zone sheet)) (done : StartedTo sheet visitors 128 ahead behind pairs) where
   module _ (zones carts : ℕ) (sized : SheetSized (unplanned_of sheet zones carts)) where
     abbrev U : Unplanned

@@ -25,6 +25,7 @@ use Rattle.crossing.proofs.Tables.{steps_is, zone_is}
 use Rattle.removal.specs.Pairs.{Unplanned, visits}
 use Rattle.planner_orders.specs.inner.Unplanned.{unplanned_of, unordered, SheetSized}
 use Rattle.planner_groups.specs.inner.Starting.{visiting_at}
+use Rattle.sheet_table.specs.declared.Table.{Table}
 
 module _ (step_table zone_table : List ℕ) where
   abbrev routes : List (List ℕ)
@@ -55,7 +56,7 @@ module _ (step_table zone_table : List ℕ) where
       go (no n) = let past : 16 ≤ d = omega (arith, n) in rw (le-ltb d 16 past) (sym (none_past d z past))
 
 -- so do the visitors of the zone of a step
-module _ (sheet visitors : List ℕ) (sheet-routes : Routes (parts.steps sheet) (parts.zone sheet))
+module _ (sheet : Table) (visitors : List ℕ) (sheet-routes : Routes (parts.steps sheet) (parts.zone sheet))
     (visitors_are : visitors ≡ who_visits (parts.steps sheet) (parts.zone sheet)) (zones carts : ℕ) (sized : SheetSized (unplanned_of sheet zones carts)) where
   abbrev U : Unplanned
   U = unplanned_of sheet zones carts

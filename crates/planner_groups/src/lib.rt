@@ -72,8 +72,8 @@ pub fn visiting(sheet: &Table, visitors: &[u16; 24], x: usize) -> u16
     requires { (x < 128) × Routes (steps sheet.now) (zone sheet.now) }
     ensures { result ≡ visiting_at sheet.now visitors.now x }
 {
-    if x % 8 < sheet_table::steps(sheet, x / 8) {
-        return visitors[sheet_table::zone(sheet, x)];
+    if x % 8 < sheet.steps(x / 8) {
+        return visitors[sheet.zone(x)];
     }
     0
 }

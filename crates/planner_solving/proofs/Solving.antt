@@ -9,8 +9,9 @@ use Rattle.removal.specs.Removal.{middle, solved}
 use Rattle.removal.proofs.Solved.{failed_many, solved_some, solved_halves, solved_depth}
 use Rattle.planner_trials.specs.inner.Trying.{Solved, Triable, Tries}
 use Rattle.planner_solving.specs.inner.Solving.{Solves}
+use Rattle.sheet_table.specs.declared.Table.{Table}
 
-module _ {sheet ranks pairs visit : List ℕ} {low high : ℕ} {ahead behind undecided ahead' behind' undecided' : List ℕ} {found : Bool}
+module _ {sheet : Table} {ranks pairs visit : List ℕ} {low high : ℕ} {ahead behind undecided ahead' behind' undecided' : List ℕ} {found : Bool}
     (tries : Tries sheet ranks pairs visit low high ahead behind undecided ahead' behind' undecided' found) where
   pub trial_solves : found ≡ true
       → Solves sheet ranks pairs visit low high ahead behind undecided ahead' behind' undecided'

@@ -30,8 +30,9 @@ use Rattle.planner_orders.proofs.Settled.{holds_stands}
 use Rattle.planner_groups.specs.inner.Starting.{Starts}
 use Rattle.planner_trials.specs.inner.Trying.{Told, Solved, Triable}
 use Rattle.planner_solving.specs.inner.Solving.{Solves}
+use Rattle.sheet_table.specs.declared.Table.{Table}
 
-module _ (zones carts : ℕ) (table : List ℕ) (v : Valid (sheet_in zones carts table)) where
+module _ (zones carts : ℕ) (table : Table) (v : Valid (sheet_in zones carts table)) where
   abbrev sheet : Sheet
   sheet = sheet_in zones carts table
 

@@ -30,6 +30,7 @@ use Rattle.planner_spare.specs.inner.Runs.{PassingIs, SpareReady, SpareTimes}
 use Rattle.planner_spare.proofs.Ranges.{least_most}
 use Rattle.planner_spare.proofs.Behind.{behind_below, behind_steps, behind_start, behind_out}
 use Rattle.planner_spare.proofs.Rule.{rule_is}
+use Rattle.sheet_table.specs.declared.Table.{Table}
 
 -- ---- a move taken back
 
@@ -43,7 +44,7 @@ after_next s order i l = ap (after s) (take-suc order i 0 l) ∙ after_append s 
 
 -- ---- the spare times so far
 
-module _ (sheet : List ℕ) (rears : List (Option ℕ)) (behind visit enter order : List ℕ) (finishing : ℕ) where
+module _ (sheet : Table) (rears : List (Option ℕ)) (behind visit enter order : List ℕ) (finishing : ℕ) where
   abbrev X : Crossing
   X = crossing_behind sheet behind
 

@@ -17,8 +17,9 @@ use Rattle.crossing.specs.inner.Tables.{crossing_by, crossing_of, fronts_of}
 use Rattle.crossing.proofs.Tables.{routes_16, step_below, route_is, steps_is, zone_is, before_is}
 use Rattle.planner_visiting.specs.inner.Visiting.{RoutesOnce}
 use Rattle.planner_spare.specs.inner.Behind.{crossing_behind}
+use Rattle.sheet_table.specs.declared.Table.{Table}
 
-module _ (sheet behind : List ℕ) where
+module _ (sheet : Table) (behind : List ℕ) where
   abbrev step_table : List ℕ
   step_table = parts.steps sheet
 

@@ -13,6 +13,7 @@ use Rattle.sheet_table.specs.inner.Parts as parts
 use Rattle.judge_entering.specs.inner.Times.{AtMost}
 use Rattle.planner_spare.specs.inner.Steps.{spare_in, alone_in, with_rear, line_in, least_in}
 use Rattle.planner_spare.proofs.Least.{least_base}
+use Rattle.sheet_table.specs.declared.Table.{Table}
 
 -- the line adds nothing
 line_most : (rears : List (Option ℕ)) (spare : List ℕ) (c j least : ℕ) → line_in rears spare c j least ≤ least
@@ -23,7 +24,7 @@ line_most rears spare c j least = go (eqb j 0) (get_or rears c None)
     go true (Some d) = omega arith
     go false rear = le_refl least
 
-pub least_most : (sheet : List ℕ) (rears : List (Option ℕ)) (behind visit enter spare : List ℕ) (finishing c j : ℕ) → AtMost finishing spare
+pub least_most : (sheet : Table) (rears : List (Option ℕ)) (behind visit enter spare : List ℕ) (finishing c j : ℕ) → AtMost finishing spare
     → least_in sheet rears behind visit enter spare finishing c j ≤ finishing
 least_most sheet rears behind visit enter spare finishing c j most =
     le_trans (least_base (has (get_or behind (8 * c + j) 0)) (spare_in visit spare (get_or (parts.zone sheet) (8 * c + j) 0)) (line_in rears spare c j own) 16)

@@ -28,6 +28,7 @@ use Rattle.planner_visiting.specs.inner.Visiting.{RoutesOnce, Places}
 use Rattle.planner_spare.specs.inner.Behind.{crossing_behind}
 use Rattle.planner_spare.specs.inner.Rears.{rears_of}
 use Rattle.planner_spare.specs.inner.Runs.{SpareReady}
+use Rattle.sheet_table.specs.declared.Table.{Table}
 
 -- who moves is one of the carts
 run_below : (S : System) (s run : List ℕ) → Run S s run → (k : ℕ) → k < length run → get_or run k 0 < carts S
@@ -35,7 +36,7 @@ run_below S s [] is k h = absurd (omega arith)
 run_below S s (c ∷ run) is zero h = permitted_cart S s c is.0
 run_below S s (c ∷ run) is (suc k) h = run_below S (moved s c) run is.1 k (le_of_suc-le-suc h)
 
-module _ (sheet : List ℕ) (rears : List (Option ℕ)) (ahead behind visit : List ℕ) where
+module _ (sheet : Table) (rears : List (Option ℕ)) (ahead behind visit : List ℕ) where
   abbrev X : Crossing
   X = crossing_behind sheet behind
 

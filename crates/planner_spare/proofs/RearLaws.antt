@@ -24,8 +24,9 @@ use Rattle.judge_entering.proofs.LaneLaws.{front_entry}
 use Rattle.planner_spare.specs.inner.Behind.{crossing_behind}
 use Rattle.planner_spare.specs.inner.Rears.{rear_among, rears_of}
 use Rattle.planner_spare.proofs.Behind.{behind_below, behind_steps}
+use Rattle.sheet_table.specs.declared.Table.{Table}
 
-module _ (sheet : List ℕ) where
+module _ (sheet : Table) where
   abbrev front : ℕ → ℕ
   front c = get_or (fronts_of sheet) c 0
 

@@ -28,8 +28,9 @@ use Rattle.planner_spare.specs.inner.Runs.{PassingIs}
 use Rattle.planner_spare.proofs.Least.{least_empty, least_one, least_same}
 use Rattle.planner_spare.proofs.Behind.{behind_16, behind_below, behind_steps, behind_zone, behind_before}
 use Rattle.planner_spare.proofs.RearLaws.{rear_says}
+use Rattle.sheet_table.specs.declared.Table.{Table}
 
-module _ (sheet : List ℕ) (rears : List (Option ℕ)) (behind visit enter : List ℕ) (finishing : ℕ)
+module _ (sheet : Table) (rears : List (Option ℕ)) (behind visit enter : List ℕ) (finishing : ℕ)
     (tables : SpareTables sheet rears behind visit enter finishing) (G : Given) (given : PassingIs (parts.passing sheet) G) where
   abbrev X : Crossing
   X = crossing_behind sheet behind

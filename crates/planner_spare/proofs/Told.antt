@@ -21,8 +21,9 @@ use Rattle.planner_spare.specs.inner.Behind.{crossing_behind}
 use Rattle.planner_spare.specs.inner.Runs.{PassingIs, SpareTimes}
 use Rattle.planner_spare.proofs.Behind.{behind_below, behind_steps, behind_before}
 use Rattle.planner_spare.proofs.Same.{spare_same}
+use Rattle.sheet_table.specs.declared.Table.{Table}
 
-module _ (sheet behind : List ℕ) (before : ℕ → ℕ → ℕ → Bool) where
+module _ (sheet : Table) (behind : List ℕ) (before : ℕ → ℕ → ℕ → Bool) where
   abbrev X : Crossing
   X = crossing_behind sheet behind
 

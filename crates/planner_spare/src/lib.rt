@@ -50,7 +50,7 @@ fn least_behind(facts: &SpareFacts, spare: &[u32; 128], x: usize, time: u32) -> 
     ensures { result ≡ least_of (has (get_or facts.now.behind.now x 0))
         (spare_in facts.now.visit.now spare.now (get_or (zone facts.now.sheet.now) x 0)) time 16 }
 {
-    let z = sheet_table::zone(facts.sheet, x);
+    let z = facts.sheet.zone(x);
     let mut least = time;
     let mut others = facts.behind[x];
     while 0 < others {
@@ -67,10 +67,10 @@ fn spare_alone(facts: &SpareFacts, spare: &[u32; 128], c: usize, j: usize) -> u3
     ensures { result ≡ alone_in (steps facts.now.sheet.now) (passing facts.now.sheet.now) facts.now.enter.now spare.now facts.now.finish c j }
 {
     let x = 8 * c + j;
-    if j + 1 < sheet_table::steps(facts.sheet, c) {
+    if j + 1 < facts.sheet.steps(c) {
         spare[x + 1]
     } else {
-        facts.finish - (facts.enter[x] + sheet_table::passing(facts.sheet, x))
+        facts.finish - (facts.enter[x] + facts.sheet.passing(x))
     }
 }
 
@@ -109,7 +109,7 @@ fn out_positions(sheet: &Table) -> [u8; 16]
     requires { AtMost 8 (steps sheet.now) }
     ensures { result ≡ entries 16 0 (λ c. moves_of (get_or (steps sheet.now) c 0)) }
 {
-    from_fn(|c| moves_of(sheet_table::steps(sheet, c)))
+    from_fn(|c| moves_of(sheet.steps(c)))
 }
 
 // The spare times of all steps, worked back through the run: `order` has the cart of each of its moves, `spare` is all 0 and takes them.
@@ -122,7 +122,7 @@ pub fn spare_times(facts: &SpareFacts, order: &[u8], spare: &mut [u32; 128])
         let c = usize::from(order[k]);
         at[c] -= 1;
         let j = usize::from(at[c]);
-        if j < sheet_table::steps(facts.sheet, c) {
+        if j < facts.sheet.steps(c) {
             put_spare(facts, spare, c, j);
         }
     }

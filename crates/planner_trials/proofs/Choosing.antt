@@ -56,8 +56,9 @@ use Rattle.planner_trials.specs.inner.Turns.{RunsOut, Underway, Chooses, Chosen}
 use Rattle.judge_one_move.specs.declared.Run.{Run}
 use Rattle.std.specs.Prelude.{Option, Some, None}
 use Rattle.planner_trials.proofs.Told.{on_tables, tabled, told_sound, run_says, holds_undecided}
+use Rattle.sheet_table.specs.declared.Table.{Table}
 
-module _ (sheet ranks pairs visit ahead behind undecided : List ℕ) (run : Run) (runs : RunsOut (crossing_of sheet ahead) (given_of sheet) run) where
+module _ (sheet : Table) (ranks pairs visit ahead behind undecided : List ℕ) (run : Run) (runs : RunsOut (crossing_of sheet ahead) (given_of sheet) run) where
   abbrev X : Crossing
   X = crossing_of sheet ahead
 
@@ -210,7 +211,7 @@ module _ (sheet ranks pairs visit ahead behind undecided : List ℕ) (run : Run)
   trial_range finishing spare is spares = of_trial _ (λ zones carts told low high decided holds. in_range zones carts told low high decided holds
       finishing spare is spares)
 
-module _ (sheet ranks visit behind undecided : List ℕ) (run : Run) (finishing : ℕ) (spare : List ℕ)
+module _ (sheet : Table) (ranks visit behind undecided : List ℕ) (run : Run) (finishing : ℕ) (spare : List ℕ)
     (is : finishing ≡ largest (last_leaving (parts.steps sheet) (parts.passing sheet) run.enter) 16)
     (spares : SpareTimes sheet behind run.enter run.order run.made finishing spare) where
   pub chosen_told : (choice : Option Choice) → ChosenBelow (tables_of (parts.zone sheet) (parts.cross sheet) (parts.passing sheet) ranks visit undecided

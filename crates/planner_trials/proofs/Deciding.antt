@@ -29,6 +29,7 @@ use Rattle.planner_trials.specs.inner.Turns.{order_of, comes_out, Candidate, Und
 use Rattle.judge_one_move.specs.declared.Run.{Run}
 use Rattle.std.specs.Prelude.{None, Some}
 use Rattle.planner_trials.proofs.Told.{step_is, told_sound, run_says, undecided_step}
+use Rattle.sheet_table.specs.declared.Table.{Table}
 
 module _ (U : Unplanned) (low high : ℕ) (decided : List Order) (o : Order) where
   -- what is decided, by whether all come out with the opposite and with the order itself
@@ -50,7 +51,7 @@ module _ (U : Unplanned) (low high : ℕ) (decided : List Order) (o : Order) whe
   unfolding decide
   decide_this e b f = ap₂ by_out e f
 
-module _ (sheet ranks pairs visit ahead behind undecided : List ℕ) (step first : ℕ)
+module _ (sheet : Table) (ranks pairs visit ahead behind undecided : List ℕ) (step first : ℕ)
     (candidate : Candidate undecided step first) where
   -- where the first cart's step in the zone stands
   abbrev other : ℕ
@@ -96,7 +97,7 @@ module _ (sheet ranks pairs visit ahead behind undecided : List ℕ) (step first
       first = record { step = step % 8; is_step = is_step; there = there; at = sym (div-add-mod step 8) };
     }
 
-module _ (sheet visit ahead behind undecided : List ℕ) (step first : ℕ)
+module _ (sheet : Table) (visit ahead behind undecided : List ℕ) (step first : ℕ)
     (candidate : Candidate undecided step first) (ahead₁ behind₁ undecided₁ : List ℕ)
     (decides : tables.Decides (get_or visit (16 * get_or (parts.zone sheet) step 0 + first) 0) step ahead behind undecided ahead₁ behind₁ undecided₁) where
   abbrev G : Given

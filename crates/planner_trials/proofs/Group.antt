@@ -21,8 +21,9 @@ use Rattle.planner_trials.specs.inner.Turns.{OnTrial, AllTried, OpenedTried}
 use Rattle.judge_one_move.specs.declared.Run.{Run}
 use Rattle.std.specs.Prelude.{Option}
 use Rattle.planner_trials.proofs.Told.{told_sound, run_says, none_out}
+use Rattle.sheet_table.specs.declared.Table.{Table}
 
-module _ (sheet ranks pairs visit : List ℕ) (low high : ℕ) (ahead₀ behind₀ undecided₀ : List ℕ)
+module _ (sheet : Table) (ranks pairs visit : List ℕ) (low high : ℕ) (ahead₀ behind₀ undecided₀ : List ℕ)
     (triable : Triable sheet ranks pairs visit low high ahead₀ behind₀ undecided₀) where
   abbrev G : Given
   G = given_of sheet

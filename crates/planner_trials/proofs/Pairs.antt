@@ -18,6 +18,7 @@ use Rattle.planner_trials.specs.inner.Turns.{comes_out, RunsOut, Underway, OfAll
 use Rattle.judge_one_move.specs.declared.Run.{Run}
 use Rattle.std.specs.Prelude.{Option, Some, None}
 use Rattle.planner_trials.proofs.Falling.{undecided_falls}
+use Rattle.sheet_table.specs.declared.Table.{Table}
 
 -- the trial has come from the orders `before` to others, which the tables hold
 pub record Reaches (U : Unplanned) (low high : ℕ) (before : List Order) (ahead behind undecided : List ℕ) : Type 0 where
@@ -25,7 +26,7 @@ pub record Reaches (U : Unplanned) (low high : ℕ) (before : List Order) (ahead
   pub same : trial U low high before ≡ trial U low high decided
   pub holds : Holds U low high decided ahead behind undecided
 
-module _ (sheet ranks visit ahead₀ behind₀ undecided₀ : List ℕ) where
+module _ (sheet : Table) (ranks visit ahead₀ behind₀ undecided₀ : List ℕ) where
   abbrev AtStart : ((U : Unplanned) (low high : ℕ) (decided : List Order) → Type 0) → Type 0
   AtStart Claim = (pairs : List ℕ) → OfAll sheet ranks pairs visit ahead₀ behind₀ undecided₀ Claim
 

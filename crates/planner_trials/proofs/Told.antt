@@ -30,6 +30,7 @@ use Rattle.judge_verdict.specs.inner.Verdict.{Runs}
 use Rattle.judge_one_move.specs.declared.Run.{Run}
 use Rattle.std.specs.Prelude.{Option, Some, None}
 use Rattle.planner_trials.specs.inner.Turns.{comes_out}
+use Rattle.sheet_table.specs.declared.Table.{Table}
 
 -- two tests that hold together are the same
 same_test : (a b : Bool) → (a ≡ true) ↔ (b ≡ true) → a ≡ b
@@ -42,7 +43,7 @@ pub none_out : (stuck : Option ℕ) → comes_out stuck ≡ true → stuck ≡ N
 none_out None e = refl
 none_out (Some c) e = absurd (true≢false (sym e))
 
-module _ (sheet ranks pairs visit : List ℕ) where
+module _ (sheet : Table) (ranks pairs visit : List ℕ) where
   abbrev IsTold : Unplanned → Type 0
   IsTold U = Told U sheet ranks pairs visit
 

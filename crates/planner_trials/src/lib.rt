@@ -63,7 +63,7 @@ fn decide_either(known: &Known, present: &mut Present, run: &mut Run, choice: Ch
         present.old.undecided choice.step choice.first present.new.ahead present.new.behind present.new.undecided run.new result }
 {
     let step = choice.step;
-    let other = known.visit[16 * sheet_table::zone(known.sheet, step) + choice.first] as usize;
+    let other = known.visit[16 * known.sheet.zone(step) + choice.first] as usize;
     present.decide(other, step);
     let stuck = verdict_of(known.sheet, &present.ahead, run);
     if stuck.is_none() {

@@ -8,6 +8,7 @@ use Rattle.sheet_table.specs.inner.Parts as parts
 use Rattle.crossing.specs.Plans.{route_of, given_by}
 use Rattle.removal.specs.Pairs.{Unplanned, front_in}
 use Rattle.removal.specs.inner.Plannable.{Plannable}
+use Rattle.sheet_table.specs.declared.Table.{Table}
 
 abbrev pub unplanned_by : List ℕ → List ℕ → List ℕ → List ℕ → List ℕ → List ℕ → List ℕ → List ℕ → ℕ → ℕ → Unplanned
 unplanned_by steps zone lane arrival passing travel follow cross zones carts = record {
@@ -18,7 +19,7 @@ unplanned_by steps zone lane arrival passing travel follow cross zones carts = r
 }
 
 -- the same of a sheet's table
-abbrev pub unplanned_of : List ℕ → ℕ → ℕ → Unplanned
+abbrev pub unplanned_of : Table → ℕ → ℕ → Unplanned
 unplanned_of sheet zones carts =
     unplanned_by (parts.steps sheet) (parts.zone sheet) (parts.lane sheet) (parts.arrival sheet) (parts.passing sheet) (parts.travel sheet)
     (parts.follow sheet) (parts.cross sheet) zones carts

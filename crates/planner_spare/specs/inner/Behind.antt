@@ -8,9 +8,10 @@ use Rattle.routes.specs.Crossing.{Crossing}
 use Rattle.sheet_table.specs.inner.Parts.{steps, zone}
 use Rattle.crossing.specs.Plans.{route_of}
 use Rattle.crossing.specs.inner.Tables.{fronts_of}
+use Rattle.sheet_table.specs.declared.Table.{Table}
 
 -- the routes of 16 carts, and who is in front of each; cart c goes before cart d in a zone where d is in the set behind c's step there
-unfoldable pub crossing_behind : List ℕ → List ℕ → Crossing
+unfoldable pub crossing_behind : Table → List ℕ → Crossing
 crossing_behind sheet behind = record {
   routes = entries 16 0 (route_of (steps sheet) (zone sheet));
   front = λ c. get_or (fronts_of sheet) c 0;

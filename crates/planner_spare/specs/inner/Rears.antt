@@ -3,6 +3,7 @@ use Rattle.std.specs.Prelude.{ℕ, zero, suc, List, get_or, eqb, map, Option, So
 use Rattle.std.specs.List.{range_with_len}
 use Rattle.words.specs.Lists.{pick}
 use Rattle.crossing.specs.inner.Tables.{fronts_of}
+use Rattle.sheet_table.specs.declared.Table.{Table}
 
 -- that of the first n carts which has cart c in front, if one has
 unfoldable pub rear_among : List ℕ → ℕ → ℕ → Option ℕ
@@ -10,5 +11,5 @@ rear_among front zero c = None
 rear_among front (suc n) c = pick (eqb (get_or front n 0) (suc c)) (Some n) (rear_among front n c)
 
 -- for each of 16 carts "the lane's next cart behind it", if there is one
-abbrev pub rears_of : List ℕ → List (Option ℕ)
+abbrev pub rears_of : Table → List (Option ℕ)
 rears_of sheet = map (rear_among (fronts_of sheet) 16) (range_with_len 0 16)

@@ -10,6 +10,7 @@ use Rattle.removal.specs.Spare.{least_of}
 use Rattle.planner_visiting.specs.inner.Visiting.{RoutesOnce, Places}
 use Rattle.planner_spare.specs.inner.Behind.{crossing_behind}
 use Rattle.planner_spare.specs.inner.Rears.{rears_of}
+use Rattle.sheet_table.specs.declared.Table.{Table}
 
 -- the spare time of cart d's step in zone z
 abbrev pub spare_in : List ℕ → List ℕ → ℕ → ℕ → ℕ
@@ -30,14 +31,14 @@ abbrev pub line_in : List (Option ℕ) → List ℕ → ℕ → ℕ → ℕ → 
 line_in rears spare c j least = pick (eqb j 0) (with_rear (get_or rears c None) spare least) least
 
 -- the least of that and of the spare times of the steps behind
-abbrev pub least_in : List ℕ → List (Option ℕ) → List ℕ → List ℕ → List ℕ → List ℕ → ℕ → ℕ → ℕ → ℕ
+abbrev pub least_in : Table → List (Option ℕ) → List ℕ → List ℕ → List ℕ → List ℕ → ℕ → ℕ → ℕ → ℕ
 least_in sheet rears behind visit enter spare finishing c j =
     least_of (has (get_or behind (8 * c + j) 0)) (spare_in visit spare (get_or (parts.zone sheet) (8 * c + j) 0))
     (line_in rears spare c j (alone_in (parts.steps sheet) (parts.passing sheet) enter spare finishing c j)) 16
 
 -- what is asked of the tables: the routes name a zone at most once, `visit` has the places of their steps, the carts behind a step visit its zone,
 -- `rears` has who is next behind on each lane, the times are in range, and no cart leaves its last zone after the finish
-pub record SpareTables (sheet : List ℕ) (rears : List (Option ℕ)) (behind visit enter : List ℕ) (finishing : ℕ) : Type 0 where
+pub record SpareTables (sheet : Table) (rears : List (Option ℕ)) (behind visit enter : List ℕ) (finishing : ℕ) : Type 0 where
   pub routed : RoutesOnce (parts.steps sheet) (parts.zone sheet)
   pub places : Places (parts.steps sheet) (parts.zone sheet) visit
   pub leavable : Leavable (parts.steps sheet) (parts.passing sheet) enter

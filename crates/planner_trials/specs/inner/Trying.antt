@@ -11,9 +11,10 @@ use Rattle.planner_orders.specs.inner.Unplanned.{unplanned_of, SheetSized}
 use Rattle.planner_orders.specs.inner.Holds.{Holds}
 use Rattle.planner_groups.specs.inner.Pairs.{HasRanks, HasPairs}
 use Rattle.planner_visiting.specs.inner.Visiting.{RoutesOnce, Places}
+use Rattle.sheet_table.specs.declared.Table.{Table}
 
 -- the tables of a sheet, and what is worked out once for it, tell of U: its routes, times, ranks, pairs and places of steps
-pub record Told (U : Unplanned) (sheet ranks pairs visit : List ℕ) : Type 0 where
+pub record Told (U : Unplanned) (sheet : Table) (ranks pairs visit : List ℕ) : Type 0 where
   pub is : U ≡ unplanned_of sheet U.zones U.carts
   pub sheet_sized : SheetSized U
   pub has_ranks : HasRanks U ranks
@@ -37,7 +38,7 @@ pub record TriedAs (U : Unplanned) (low high : ℕ) (decided : List Order) (ahea
       → ((all : List Order) × ((trial U low high decided ≡ some all) × Solved U high all ahead behind undecided))
   pub no_orders : found ≡ false → (trial U low high decided ≡ none) × Solved U low decided ahead behind undecided
 
-module _ (sheet ranks pairs visit : List ℕ) (low high : ℕ) (ahead behind undecided : List ℕ) where
+module _ (sheet : Table) (ranks pairs visit : List ℕ) (low high : ℕ) (ahead behind undecided : List ℕ) where
   -- what is asked of the tables: some U that they tell of, with the ranks below the group solved
   pub record Triable : Type 0 where
     pub rising : low ≤ high

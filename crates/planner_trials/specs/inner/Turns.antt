@@ -14,6 +14,7 @@ use Rattle.planner_costs.specs.declared.Choice.{Choice}
 use Rattle.planner_trials.specs.inner.Trying.{Told, Solved}
 use Rattle.judge_verdict.specs.inner.Verdict.{Runs}
 use Rattle.judge_one_move.specs.declared.Run.{Run}
+use Rattle.sheet_table.specs.declared.Table.{Table}
 
 -- a run over the orders present in which all carts come out
 abbrev pub RunsOut : Crossing → Given → Run → Type 0
@@ -50,7 +51,7 @@ pub record Ends (U : Unplanned) (low high : ℕ) (decided : List Order) (ahead b
       → (all : List Order) × ((trial U low high decided ≡ some all) × Holds U low high all ahead behind undecided)
   pub no_orders : found ≡ false → trial U low high decided ≡ none
 
-module _ (sheet ranks pairs visit ahead behind undecided : List ℕ) where
+module _ (sheet : Table) (ranks pairs visit ahead behind undecided : List ℕ) where
   -- the group of some U is tried: the tables tell of U, and hold the orders decided so far
   pub record Underway : Type 0 where
     pub U : Unplanned
@@ -66,7 +67,7 @@ module _ (sheet ranks pairs visit ahead behind undecided : List ℕ) where
       → Holds U low high decided ahead behind undecided → Claim U low high decided
 
 -- an order is chosen, whatever the tables are that it does not look at: what is asked, and what the choice tells
-module _ (sheet ranks visit behind undecided : List ℕ) (run : Run) where
+module _ (sheet : Table) (ranks visit behind undecided : List ℕ) (run : Run) where
   pub record Choosable : Type 0 where
     pub pairs : List ℕ
     pub ahead : List ℕ
@@ -81,7 +82,7 @@ module _ (sheet ranks visit behind undecided : List ℕ) (run : Run) where
         (λ U low high decided. Chooses U low high decided (parts.zone sheet) choice)
 
 -- one of its two directions is decided: what is asked, and what the run that follows tells
-module _ (sheet visit ahead behind undecided : List ℕ) (step first : ℕ) where
+module _ (sheet : Table) (visit ahead behind undecided : List ℕ) (step first : ℕ) where
   pub record Decidable : Type 0 where
     pub ranks : List ℕ
     pub pairs : List ℕ
@@ -94,7 +95,7 @@ module _ (sheet visit ahead behind undecided : List ℕ) (step first : ℕ) wher
         (λ U low high decided. Decides U low high decided (order_of (parts.zone sheet) step first) ahead' behind' undecided' (comes_out stuck))
 
 -- orders are decided until no pair is left undecided: what is asked, and what the tables hold then
-module _ (sheet ranks visit ahead behind undecided : List ℕ) where
+module _ (sheet : Table) (ranks visit ahead behind undecided : List ℕ) where
   pub record OnTrial (run : Run) : Type 0 where
     pub pairs : List ℕ
     pub underway : Underway sheet ranks pairs visit ahead behind undecided
@@ -105,7 +106,7 @@ module _ (sheet ranks visit ahead behind undecided : List ℕ) where
         (λ U low high decided. Ends U low high decided ahead' behind' undecided' found)
 
 -- the group is opened and its pairs are tried, where the ranks below it are solved
-module _ (sheet ranks pairs visit : List ℕ) (low high : ℕ) (ahead behind undecided : List ℕ) where
+module _ (sheet : Table) (ranks pairs visit : List ℕ) (low high : ℕ) (ahead behind undecided : List ℕ) where
   pub record OpenedTried (ahead' behind' undecided' : List ℕ) (found : Bool) : Type 0 where
     pub ends : (U : Unplanned) → Told U sheet ranks pairs visit
         → (decided : List Order) → Solved U low decided ahead behind undecided → Ends U low high decided ahead' behind' undecided' found

@@ -95,8 +95,8 @@ module _ (sheet : Table) (ranks pairs visit ahead behind undecided : List ℕ) (
       behind_visits c j d h is =
           (named_says (get_or U.routes d []) _).0 (goes_visits U low high decided _ c d (sym ((holds.at_step c j h).behind_is d) ∙ is)).1
 
-      ready : (rears : List ℕ) → rears ≡ rears_of sheet → (finishing : ℕ) → finishing ≡ largest (last_leaving (parts.steps sheet) (parts.passing sheet) run.enter) 16
-          → SpareReady sheet rears behind visit run.enter run.order run.made finishing (replicate 128 0)
+      ready : (rears : List (Option ℕ)) → rears ≡ rears_of sheet → (finishing : ℕ) → finishing ≡ largest (last_leaving (parts.steps sheet) (parts.passing sheet) run.enter) 16
+          → SpareReady sheet rears behind visit run.enter (take run.made run.order) finishing (replicate 128 0)
       ready rears rears_are finishing is =
           settled_ready sheet rears ahead behind visit G run.at run.left run.enter run.order run.made finishing runs.settled out told.routed
           told.places told.passing_most is behind_visits rears_are
@@ -119,7 +119,7 @@ module _ (sheet : Table) (ranks pairs visit ahead behind undecided : List ℕ) (
           one false c = omega (arith, runs.settled.enter_most (last_at (parts.steps sheet) c), told.passing_most (last_at (parts.steps sheet) c))
 
       module _ (finishing : ℕ) (spare : List ℕ) (is : finishing ≡ largest (last_leaving (parts.steps sheet) (parts.passing sheet) run.enter) 16)
-          (spares : SpareTimes sheet behind run.enter run.order run.made finishing spare) where
+          (spares : SpareTimes sheet behind run.enter (take run.made run.order) finishing spare) where
         abbrev T : Tables
         T = tables_of (parts.zone sheet) (parts.cross sheet) (parts.passing sheet) ranks visit undecided run.enter spare
 
@@ -162,7 +162,7 @@ module _ (sheet : Table) (ranks pairs visit ahead behind undecided : List ℕ) (
             spare_time_same Z G told.sheet_sized.able.once (present_both U low high decided) (all_made Z all_out) run_made time (times_of run.enter)
             times_same c j h
             ∙ sym (spare_told sheet behind Z.before told.routed (λ c j d h. (holds.at_step c j h).behind_is d)
-            run.enter run.order run.made finishing spare
+            run.enter (take run.made run.order) finishing spare
             spares G (λ c j. refl) finish_same c j h)
 
         turn_told : turn U low high decided ≡ on_taken U low high decided (largest_cost U time (spare_time Z G (moves_made Z) time) (candidates U low high decided))
@@ -197,15 +197,15 @@ module _ (sheet : Table) (ranks pairs visit ahead behind undecided : List ℕ) (
   pub trial_leavable : Underway sheet ranks pairs visit ahead behind undecided → Leavable (parts.steps sheet) (parts.passing sheet) run.enter
   trial_leavable = of_trial _ leavable
 
-  pub trial_ready : (rears : List ℕ) → rears ≡ rears_of sheet → (finishing : ℕ) → finishing ≡ largest
+  pub trial_ready : (rears : List (Option ℕ)) → rears ≡ rears_of sheet → (finishing : ℕ) → finishing ≡ largest
       (last_leaving (parts.steps sheet) (parts.passing sheet) run.enter) 16
       → Underway sheet ranks pairs visit ahead behind undecided
-      → SpareReady sheet rears behind visit run.enter run.order run.made finishing (replicate 128 0)
+      → SpareReady sheet rears behind visit run.enter (take run.made run.order) finishing (replicate 128 0)
   trial_ready rears rears_are finishing is =
       of_trial _ (λ zones carts told low high decided holds. ready zones carts told low high decided holds rears rears_are finishing is)
 
   pub trial_range : (finishing : ℕ) (spare : List ℕ) → finishing ≡ largest (last_leaving (parts.steps sheet) (parts.passing sheet) run.enter) 16
-      → SpareTimes sheet behind run.enter run.order run.made finishing spare
+      → SpareTimes sheet behind run.enter (take run.made run.order) finishing spare
       → Underway sheet ranks pairs visit ahead behind undecided
       → InRange (tables_of (parts.zone sheet) (parts.cross sheet) (parts.passing sheet) ranks visit undecided run.enter spare)
   trial_range finishing spare is spares = of_trial _ (λ zones carts told low high decided holds. in_range zones carts told low high decided holds
@@ -213,7 +213,7 @@ module _ (sheet : Table) (ranks pairs visit ahead behind undecided : List ℕ) (
 
 module _ (sheet : Table) (ranks visit behind undecided : List ℕ) (run : Run) (finishing : ℕ) (spare : List ℕ)
     (is : finishing ≡ largest (last_leaving (parts.steps sheet) (parts.passing sheet) run.enter) 16)
-    (spares : SpareTimes sheet behind run.enter run.order run.made finishing spare) where
+    (spares : SpareTimes sheet behind run.enter (take run.made run.order) finishing spare) where
   pub chosen_told : (choice : Option Choice) → ChosenBelow (tables_of (parts.zone sheet) (parts.cross sheet) (parts.passing sheet) ranks visit undecided
       run.enter spare) 128 choice
       → Chosen sheet ranks visit behind undecided run choice

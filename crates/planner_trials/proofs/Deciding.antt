@@ -27,7 +27,7 @@ use Rattle.judge_verdict.specs.inner.Verdict.{Runs}
 use Rattle.crossing.specs.inner.Sound.{Sound}
 use Rattle.planner_trials.specs.inner.Turns.{order_of, comes_out, Candidate, Underway, Decided}
 use Rattle.judge_one_move.specs.declared.Run.{Run}
-use Rattle.std.specs.Prelude.{None, Some}
+use Rattle.std.specs.Prelude.{Option as Maybe}
 use Rattle.planner_trials.proofs.Told.{step_is, told_sound, run_says, undecided_step}
 use Rattle.sheet_table.specs.declared.Table.{Table}
 
@@ -107,7 +107,7 @@ module _ (sheet : Table) (visit ahead behind undecided : List ℕ) (step first :
   abbrev taken : Order
   taken = order_of (parts.zone sheet) step first
 
-  abbrev Answers : List ℕ → List ℕ → List ℕ → Run → Option ℕ → Type 0
+  abbrev Answers : List ℕ → List ℕ → List ℕ → Run → Maybe ℕ → Type 0
   Answers = Decided sheet visit ahead behind undecided step first
 
   module _ (ranks pairs : List ℕ) (U : Unplanned) (low high : ℕ) (decided : List Order)
@@ -120,7 +120,7 @@ module _ (sheet : Table) (visit ahead behind undecided : List ℕ) (step first :
     opposite_held : Holds U low high (opposite taken ∷ decided) ahead₁ behind₁ undecided₁
     opposite_held = decides.holds U low high decided (opposite taken) opposite_candidate holds
 
-    says : (ahead' behind' : List ℕ) (all : List Order) → Holds U low high all ahead' behind' undecided₁ → (run : Run) (stuck : Option ℕ)
+    says : (ahead' behind' : List ℕ) (all : List Order) → Holds U low high all ahead' behind' undecided₁ → (run : Run) (stuck : Maybe ℕ)
         → Runs (crossing_of sheet ahead') G run stuck → is_out (present U low high all) ≡ comes_out stuck
     says ahead' behind' all held run stuck runs =
         run_says sheet ranks pairs visit ahead' behind' undecided₁ run stuck runs U told low high all held
@@ -132,7 +132,7 @@ module _ (sheet : Table) (visit ahead behind undecided : List ℕ) (step first :
         told_sound sheet ranks pairs visit ahead₁ behind₁ undecided₁ t.U t.told t.low t.high _
         (opposite_held ranks pairs t.U t.low t.high t.decided t.told t.holds)
 
-  module _ (run : Run) (stuck : Option ℕ) (runs : Runs (crossing_of sheet ahead₁) G run stuck) where
+  module _ (run : Run) (stuck : Maybe ℕ) (runs : Runs (crossing_of sheet ahead₁) G run stuck) where
     -- "Decide the opposite."
     pub opposite_decided : comes_out stuck ≡ true → Answers ahead₁ behind₁ undecided₁ run stuck
     opposite_decided out = record {
@@ -162,7 +162,7 @@ module _ (sheet : Table) (visit ahead behind undecided : List ℕ) (step first :
           told_sound sheet ranks pairs visit ahead₂ behind₂ undecided₁ t.U t.told t.low t.high _
           (this_held ranks pairs t.U t.low t.high t.decided t.told t.holds)
 
-      pub this_decided : (again : Run) (stuck' : Option ℕ) → Runs (crossing_of sheet ahead₂) G again stuck' → Answers ahead₂ behind₂ undecided₁ again stuck'
+      pub this_decided : (again : Run) (stuck' : Maybe ℕ) → Runs (crossing_of sheet ahead₂) G again stuck' → Answers ahead₂ behind₂ undecided₁ again stuck'
       this_decided again stuck' runs-again = record {
         runs = runs-again;
         decides = λ ranks pairs U low high decided told holds.

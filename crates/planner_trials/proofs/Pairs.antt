@@ -1,6 +1,6 @@
 -- What is tried from here on is what was tried at the start: each turn of the loop is a turn of the trial.
 use Prim.Native.Nat.{ℕ, suc, ◌<◌}
-use mathlib.Core.Path.{◌≡◌, refl, sym, ◌∙◌}
+use mathlib.Core.Path.{◌≡◌, refl, sym, ap, ◌∙◌}
 use mathlib.Core.Bool.{Bool, true, false, true≢false}
 use mathlib.Core.Option.{none}
 use mathlib.Core.List.{List}

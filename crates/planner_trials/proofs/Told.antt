@@ -2,7 +2,7 @@
 use Prim.Native.Nat.{ℕ, ◌+◌, ◌*◌, ◌/◌, ◌%◌, ◌<◌}
 use mathlib.Core.Path.{◌≡◌, refl, sym, ap, subst, ◌∙◌}
 use mathlib.Core.Logic.{◌↔◌}
-use mathlib.Core.Bool.{Bool, true, false, true≢false}
+use mathlib.Core.Bool.{Bool, true, false, true≢false, not}
 use mathlib.Core.List.{List, []}
 use native.Mathlib.Decide.{dec_lt}
 use native.Mathlib.Nat.{mod-lt, div-add-mod}
@@ -29,6 +29,7 @@ use Rattle.planner_trials.specs.inner.Trying.{Told}
 use Rattle.judge_verdict.specs.inner.Verdict.{Runs}
 use Rattle.judge_one_move.specs.declared.Run.{Run}
 use Rattle.std.specs.Prelude.{Option, Some, None}
+use Rattle.std.specs.Option.{is_some}
 use Rattle.planner_trials.specs.inner.Turns.{comes_out}
 use Rattle.sheet_table.specs.declared.Table.{Table}
 
@@ -42,6 +43,12 @@ same_test false false h = refl
 pub none_out : (stuck : Option ℕ) → comes_out stuck ≡ true → stuck ≡ None
 none_out None e = refl
 none_out (Some c) e = absurd (true≢false (sym e))
+
+pub out_is : (stuck : Option ℕ) (b : Bool) → is_some stuck ≡ b → comes_out stuck ≡ not b
+out_is None false e = refl
+out_is None true e = absurd (true≢false (sym e))
+out_is (Some c) true e = refl
+out_is (Some c) false e = absurd (true≢false e)
 
 module _ (sheet : Table) (ranks pairs visit : List ℕ) where
   abbrev IsTold : Unplanned → Type 0

@@ -1,6 +1,7 @@
 // The trial of a group of ranks: orders of its pairs are decided one by one, each kept only where all carts still come out.
 #![tactic(auto)]
 
+ghost use Rattle.std.specs.Prelude.{◌≡◌};
 ghost use Rattle.planner_spare.specs.inner.Rears.{rears_of};
 ghost use Rattle.planner_trials.specs.inner.Trying.{Triable, Tries};
 ghost use Rattle.planner_trials.specs.inner.Turns.{Choosable, Chosen, Decidable, Decided, OnTrial, AllTried, OpenedTried};
@@ -8,10 +9,10 @@ ghost use Rattle.planner_trials.specs.inner.Turns.{Choosable, Chosen, Decidable,
 use judge_finish::finish_of;
 use judge_one_move::Run;
 use judge_verdict::verdict_of;
-use planner_costs::{Choice, Facts, largest_cost};
+use planner_costs::{Choice, CostFacts, largest_cost};
 use planner_groups::open_group;
 use planner_orders::Present;
-use planner_spare::spare_times;
+use planner_spare::{SpareFacts, spare_times};
 use sheet_table::Table;
 
 // What is worked out once for a sheet that is planned: each cart's rank, for each step the carts with which it is a pair,
@@ -22,7 +23,7 @@ pub struct Known<'a> {
     pub ranks: [u8; 16],
     pub pairs: [u16; 128],
     pub visit: [u8; 384],
-    pub rears: [u8; 16],
+    pub rears: [Option<usize>; 16],
     ghost rears_are: { rears ≡ rears_of sheet.now },
 }
 
@@ -34,18 +35,16 @@ fn choose(known: &Known, present: &Present, run: &Run) -> Option<Choice>
 {
     let finish = finish_of(known.sheet, &run.enter);
     let mut spare = [0u32; 128];
-    spare_times(
-        known.sheet,
-        &known.rears,
-        &present.behind,
-        &known.visit,
-        &run.enter,
-        &run.order,
-        run.made,
+    let facts = SpareFacts {
+        sheet: known.sheet,
+        rears: &known.rears,
+        behind: &present.behind,
+        visit: &known.visit,
+        enter: &run.enter,
         finish,
-        &mut spare,
-    );
-    largest_cost(&Facts {
+    };
+    spare_times(&facts, &run.order[..run.made], &mut spare);
+    largest_cost(&CostFacts {
         sheet: known.sheet,
         rank: &known.ranks,
         visit: &known.visit,

@@ -4,7 +4,7 @@ use Rattle.planner_trials.proofs.Pairs.{SoFar}
 use Rattle.planner_trials.proofs.try_pairs.Given as goal
 
 abbrev pub invariant-loop-choice : goal.invariant-loop-choice
-invariant-loop-choice l = SoFar l.known.sheet l.known.ranks l.known.visit l.initial.present.ahead l.initial.present.behind
+invariant-loop-choice l = SoFar l.known.sheet.now l.known.ranks l.known.visit l.initial.present.ahead l.initial.present.behind
     l.initial.present.undecided l.present.ahead l.present.behind l.present.undecided l.run
 
 abbrev pub decreases-loop-choice : goal.decreases-loop-choice

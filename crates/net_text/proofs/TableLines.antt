@@ -3,14 +3,16 @@ use Prim.Native.Nat.{ℕ, zero, suc, ◌+◌, ◌*◌, ◌≤◌, ◌<◌}
 use mathlib.Core.Path.{◌≡◌, refl, sym, ap, ap₂, ◌∙◌}
 use mathlib.Core.Logic.{◌≢◌}
 use mathlib.Core.Bool.{Bool, true, false, ◌&&◌}
-use mathlib.Core.Option
-use mathlib.Core.Option.{Option, none, some}
+use mathlib.Core.Option as found
+use mathlib.Core.Option.{none, some}
 use mathlib.Core.List.{List, [], ◌∷◌, ◌++◌, append-nil}
 use native.Mathlib.Decide.{dec_lt}
 use native.Mathlib.Omega.{arith}
 use lib.ListN.{length, get_or, length-append}
-use lib.Dec.{leb, ltb, eqb}
+use lib.Dec.{leb, ltb, eqb, eqb-zero-suc, eqb-suc-suc}
 use borrow.Author.Tests.{lt-ltb, le-ltb, eq-eqb, ne_eqb, eqb-true}
+use Rattle.std.proofs.Common.{Option, Some}
+use Rattle.std.specs.Option.{option_eq}
 use Rattle.words.specs.Lists.{pick, each}
 use Rattle.words.proofs.Entries.{length_entries, at_entry, length_each_most}
 use Rattle.words.proofs.Tests.{same_test}
@@ -22,6 +24,7 @@ use Rattle.routes.specs.Lists.{place_of}
 use Rattle.routes.specs.Crossing.{Crossing, steps, zone}
 use Rattle.routes.specs.Lanes.{is_front}
 use Rattle.routes.specs.Moves.{is_behind, is_in_line}
+use Rattle.routes.specs.inner.Orders.{NamesOnce}
 use Rattle.routes.proofs.Places.{place_names, place_first}
 use Rattle.routes.proofs.Lanes.{front_says}
 use Rattle.sheet_table.specs.inner.Parts as parts
@@ -30,7 +33,7 @@ use Rattle.crossing.specs.inner.Sound.{Sound}
 use Rattle.crossing.specs.inner.Tables.{fronts_of, crossing_by, crossing_of, given_of}
 use Rattle.crossing.proofs.Tables.{routes_16, route_is, steps_is, zone_is, before_is}
 use Rattle.crossing.proofs.Fronts.{front_lower}
-use Rattle.judge_entering.specs.inner.Lanes.{lanes_of, front_at}
+use Rattle.judge_entering.specs.inner.Lanes.{lanes_of, front_at, cart_in_front}
 use Rattle.judge_entering.proofs.Holding.{front_told}
 use Rattle.net_text.specs.Lines.{
   Line,
@@ -46,7 +49,7 @@ use Rattle.net_text.specs.Lines.{
   cart_lines,
   net_lines,
 }
-use Rattle.net_text.specs.inner.Tables.{step_of, lane_in, pair_in, other_in, Lined}
+use Rattle.net_text.specs.inner.Tables.{step_of, lane_in, pair_in, other_in}
 
 -- ---- the step of a cart in a zone
 
@@ -57,7 +60,7 @@ place_none list x n = go (lowest is_here (length list)) (lowest_is is_here (leng
     is_here : ℕ → Bool
     is_here e = eqb (get_or list e 0) x
 
-    go : (o : Option ℕ) → IsLowest is_here (length list) o → Option.get_or o 0 ≡ 0
+    go : (o : found.Option ℕ) → IsLowest is_here (length list) o → found.get_or o 0 ≡ 0
     go none all = refl
     go (some k) (below, found, _) = absurd (n k below (eqb-true (get_or list k 0) x found))
 
@@ -97,15 +100,6 @@ module _ (sheet : List ℕ) (d z : ℕ) where
 
 -- ---- another cart, as its test picks it
 
-pub lane_none : (front c p d : ℕ) → p ≢ 0 → lane_in front c p d ≡ []
-lane_none front c p d n = rw (ne_eqb p 0 n)
-
-pub lane_other : (front c p d : ℕ) → p ≡ 0 → front ≢ d + 1 → lane_in front c p d ≡ []
-lane_other front c p d e n = rw (eq-eqb p 0 e, ne_eqb front (suc d) (λ f. n (omega arith)))
-
-pub lane_is : (front c p d : ℕ) → p ≡ 0 → front ≡ d + 1 → lane_in front c p d ≡ lane_lines c d
-lane_is front c p d e f = rw (eq-eqb p 0 e, eq-eqb front (suc d) (omega arith))
-
 module _ (sheet : List ℕ) (ahead c p d : ℕ) where
   pub pair_none : has ahead d ≡ false → pair_in sheet ahead c p d ≡ []
   pair_none n = rw n
@@ -126,17 +120,17 @@ picked_most true false c p d q = omega arith
 picked_most false true c p d q = omega arith
 picked_most false false c p d q = omega arith
 
-pub lane_most : (front c p d : ℕ) → length (lane_in front c p d) ≤ 3
-lane_most front c p d = go (eqb p 0 && eqb front (suc d))
+pub lane_most : (front : Option ℕ) (c p d : ℕ) → length (lane_in front c p d) ≤ 3
+lane_most front c p d = go (eqb p 0 && option_eq eqb front (Some d))
   where
     go : (b : Bool) → length (pick b (lane_lines c d) []) ≤ 3
     go true = omega arith
     go false = omega arith
 
-pub others_most : (sheet : List ℕ) (front ahead c p k : ℕ) → length (each k 0 (other_in sheet front ahead c p)) ≤ 6 * k
+pub others_most : (sheet : List ℕ) (front : Option ℕ) (ahead c p k : ℕ) → length (each k 0 (other_in sheet front ahead c p)) ≤ 6 * k
 unfolding other_in
 others_most sheet front ahead c p k =
-    length_each_most k 0 6 (other_in sheet front ahead c p) (λ d _. picked_most (eqb p 0 && eqb front (suc d)) (has ahead d) c p d _)
+    length_each_most k 0 6 (other_in sheet front ahead c p) (λ d _. picked_most (eqb p 0 && option_eq eqb front (Some d)) (has ahead d) c p d _)
 
 module _ (X : Crossing) (sized : length X.routes ≡ 16) where
   position_most : (c p : ℕ) → length (position_lines X c p) ≤ 100
@@ -176,6 +170,10 @@ unfolding each
 each_none zero i rule h = refl
 each_none (suc n) i rule h = rw (h i) (each_none n (i + 1) rule h)
 
+front_test : (f d : ℕ) → option_eq eqb (cart_in_front f) (Some d) ≡ eqb f (suc d)
+front_test zero d = sym (eqb-zero-suc d)
+front_test (suc e) d = sym (eqb-suc-suc e d)
+
 module _ (sheet ahead : List ℕ) where
   abbrev X : Crossing
   X = crossing_of sheet ahead
@@ -196,6 +194,9 @@ module _ (sheet ahead : List ℕ) where
   module _ (c : ℕ) (l : c < 16) where
     pub count_is : steps X c ≡ get_or (parts.steps sheet) c 0
     count_is = steps_is (parts.steps sheet) (parts.zone sheet) (fronts_of sheet) ahead c l
+
+    pub few : Sound X (given_of sheet) → get_or (parts.steps sheet) c 0 ≤ 8
+    few sound = omega (arith, count_is, sound.ranged.steps_most c)
 
     pub cart_none : get_or (parts.steps sheet) c 0 ≡ 0 → cart_lines X c ≡ []
     unfolding cart_lines each
@@ -220,15 +221,16 @@ module _ (sheet ahead : List ℕ) where
         none : (d : ℕ) → other_lines X c p d ≡ []
         none d = rw (ne_eqb p 0 (λ first. omega arith), le-ltb p (steps X c) (omega (arith, count_is)))
 
-    module _ (lanes : List ℕ) (L : Lined sheet ahead lanes) where
-      front_is : (d : ℕ) → is_front X d c ≡ eqb (front_at lanes c) (suc d)
+    module _ (lanes : List ℕ) (are : lanes ≡ lanes_of sheet) (once : NamesOnce X) where
+      front_is : (d : ℕ) → is_front X d c ≡ option_eq eqb (cart_in_front (front_at lanes c)) (Some d)
       unfolding crossing_by
       front_is d = same_test _ _
           (λ f. eq-eqb (front_at lanes c) (suc d) (told ∙ ((front_says X d c).0 f).is))
           (λ t. (front_says X d c).1 (front_lower (parts.steps sheet) (parts.zone sheet) (parts.lane sheet) ahead d c (sym told ∙ eqb-true _ _ t)).1)
+          ∙ sym (front_test (front_at lanes c) d)
         where
           told : front_at lanes c ≡ get_or (fronts_of sheet) c 0
-          told = front_told sheet lanes L.lanes_are c l
+          told = front_told sheet lanes are c l
 
       module _ (p : ℕ) (h : p < steps X c) where
         there : zone X c p ≡ get_or (parts.zone sheet) (8 * c + p) 0
@@ -237,29 +239,21 @@ module _ (sheet ahead : List ℕ) where
         behind_is : (d : ℕ) → is_behind X c p d ≡ has (get_or ahead (8 * c + p) 0) d
         behind_is d =
             rw (lt-ltb p (steps X c) h)
-            (before_is (parts.steps sheet) (parts.zone sheet) (fronts_of sheet) ahead c l L.once p d (zone X c p) h refl)
+            (before_is (parts.steps sheet) (parts.zone sheet) (fronts_of sheet) ahead c l once p d (zone X c p) h refl)
 
         out_is : (d : ℕ) → d < 16 → out_from X c p d ≡ suc (step_of sheet d (get_or (parts.zone sheet) (8 * c + p) 0))
         out_is d k = ap₂ (λ (list : List ℕ) (z : ℕ). suc (place_of list z)) (route_is (parts.steps sheet) (parts.zone sheet) (fronts_of sheet) ahead d k) there
 
-        other_is : (d : ℕ) → d < 16 → other_lines X c p d ≡ other_in sheet (front_at lanes c) (get_or ahead (8 * c + p) 0) c p d
+        other_is : (d : ℕ) → d < 16 → other_lines X c p d ≡ other_in sheet (cart_in_front (front_at lanes c)) (get_or ahead (8 * c + p) 0) c p d
         unfolding other_lines other_in
         other_is d k =
             ap₂ (λ (a b : List Line). a ++ b) (ap (λ (t : Bool). pick (eqb p 0 && t) (lane_lines c d) []) (front_is d))
             (ap₂ (λ (t : Bool) (q : ℕ). pick t (pair_lines c p d q) []) (behind_is d) (out_is d k))
 
-        pub position_is : (n f : ℕ) → n ≡ get_or (parts.steps sheet) c 0 → f ≡ front_at lanes c
+        pub position_is : (n : ℕ) (f : Option ℕ) → n ≡ get_or (parts.steps sheet) c 0 → f ≡ cart_in_front (front_at lanes c)
             → position_lines X c p ≡ (place_cart c p ∷ pick (leb p n) (move_lines c p) []) ++ each 16 0 (other_in sheet f (get_or ahead (8 * c + p) 0) c p)
         unfolding position_lines
         position_is n f e front =
             ap₂ (λ (a b : List Line). a ++ b) (own_is p n e)
             (ap (λ (m : ℕ). each m 0 (other_lines X c p)) sized
             ∙ each_same 16 0 (other_lines X c p) (other_in sheet f (get_or ahead (8 * c + p) 0) c p) (λ d k. rw front (other_is d (omega arith))))
-
-  -- what is asked before carts are moved is enough
-  pub sound_lined : Sound X (given_of sheet) → Lined sheet ahead (lanes_of sheet)
-  sound_lined sound = record {
-    few = λ c l. omega (arith, count_is c l, sound.ranged.steps_most c);
-    once = sound.once;
-    lanes_are = refl;
-  }

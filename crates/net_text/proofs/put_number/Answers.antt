@@ -1,23 +1,19 @@
--- A blank and then the two characters, by whether there is a number.
+-- The three characters are stored as one part.
+use mathlib.Core.Path.{◌≡◌, ◌∙◌}
+use mathlib.Core.List.{◌∷◌}
 use native.Mathlib.Omega.{arith}
-use lib.ListN.{length-set}
-use Rattle.net_text.proofs.LineLaws.{number_stored, dashes_stored}
+use Rattle.net_text.specs.Lines.{bytes}
+use Rattle.net_text.specs.inner.Writing.{shown}
+use Rattle.net_text.proofs.LineLaws.{put_sets, shown_length}
 use Rattle.net_text.proofs.put_number.Goals as goal
-
-pub bounds-room-at-then-n-eq-NONE : goal.bounds-room-at-then-n-eq-NONE
-bounds-room-at-then-n-eq-NONE c = simp length-set (omega arith)
-
-pub bounds-room-at-then-n-eq-NONE-2 : goal.bounds-room-at-then-n-eq-NONE-2
-bounds-room-at-then-n-eq-NONE-2 c = simp length-set (omega arith)
-
-pub returns-then-n-eq-NONE : goal.returns-then-n-eq-NONE
-returns-then-n-eq-NONE c = dashes_stored c.args.n c.args.room.now c.args.at c.if-n-eq-NONE.true
-
-pub bounds-room-at-2 : goal.bounds-room-at-2
-bounds-room-at-2 c = simp length-set (omega arith)
-
-pub bounds-room-at-3 : goal.bounds-room-at-3
-bounds-room-at-3 c = simp length-set (omega arith)
+use Rattle.net_text.proofs.put_number.Goals.{in-Some, in-None}
 
 pub returns : goal.returns
-returns c = number_stored c.args.n c.args.room.now c.args.at (omega arith)
+unfolding bytes
+returns c =
+    let text : c.match-n.text ≡ 32 ∷ shown c.args.n
+    = elim c.match-n.branch [
+      | in-Some w ↦ rw (w.text-is, w.in-Some.is)
+      | in-None w ↦ rw (w.text-is, w.in-None.is)
+    ] in
+    put_sets c.args.room.now _ _ c.args.at _ (c.copy_from_slice.ensures.after ∙ text) (omega (arith, shown_length c.args.n)) (omega arith)

@@ -8,4 +8,5 @@ use Rattle.net_text.proofs.text_length.Goals as goal
 pub returns : goal.returns
 unfolding net_text
 returns c = let a = c.args in
-    omega (arith, c.put_net.ensures.wrote.counted, text_length (net_lines (crossing_of a.sheet.now a.ahead.now)))
+    let counted = rw (c.of.ensures.sheet, c.of.ensures.ahead) at c.put_net.ensures.wrote.counted in
+    omega (arith, counted, text_length (net_lines (crossing_of a.sheet.now a.ahead.now)))

@@ -1,19 +1,24 @@
 -- The net's answer: by the room's length, over tables; then by how reading the plan was left, for the plan's lists.
 use Prim.Native.Nat.{ℕ, ◌≤◌, ◌<◌}
 use mathlib.Core.Path.{◌≡◌, refl, sym, ap, ◌∙◌}
-use mathlib.Core.Bool.{true, false}
+use mathlib.Core.Bool.{Bool, true, false}
 use mathlib.Core.List.{List, [], ◌∷◌}
 use native.Mathlib.Omega.{arith}
 use lib.ListN.{length}
 use lib.Dec.{leb}
 use borrow.Author.Tests.{le-leb, lt-leb, leb-true}
+use Rattle.std.specs.Prelude.{Ok}
+use Rattle.std.specs.Int.{from_bool}
 use Rattle.words.specs.Checks.{done, refused, first_failing}
 use Rattle.words.specs.declared.Outcome.{Outcome}
 use Rattle.words.proofs.All.{all_first, all_later}
+use Rattle.sets.specs.Counting.{bit}
 use Rattle.routes.specs.Crossing.{Crossing}
 use Rattle.sheet.specs.Valid.{Valid}
 use Rattle.sheet.specs.declared.Sheet.{Sheet}
-use Rattle.plan.specs.Reading.{reading_checks, read_plan}
+use Rattle.sheet_filling.specs.inner.Filled.{sheet_in}
+use Rattle.sheet_reader.specs.declared.Counts.{Counts}
+use Rattle.plan.specs.Reading.{reading_checks, plan_refused, read_plan}
 use Rattle.plan.specs.Valid.{ValidOrders}
 use Rattle.plan.specs.declared.Orders.{Orders}
 use Rattle.plan.specs.declared.PlanRead.{PlanRead}
@@ -21,7 +26,7 @@ use Rattle.plan.proofs.Further.{further_refused, further_read}
 use Rattle.plan.proofs.Passing.{passes_read}
 use Rattle.plan.proofs.Readable.{readable_whole}
 use Rattle.plan_reader.specs.inner.Scan.{BothRead}
-use Rattle.plan_reader.proofs.ReadLaws.{both_refused, both_read, valid_sheet, valid_orders}
+use Rattle.plan_reader.proofs.ReadLaws.{valid_sheet, valid_orders}
 use Rattle.crossing.specs.Plans.{routes_of, plan_crossing}
 use Rattle.crossing.specs.inner.Tables.{crossing_by, sheet_crossing}
 use Rattle.crossing.proofs.Plans.{plan_fronts, agree}
@@ -31,6 +36,10 @@ use Rattle.net_text.specs.Lines.{net_text, with_text}
 use Rattle.net_text.proofs.SameText.{text_same}
 use Rattle.net.specs.Netting.{not_netted, text_fits, RunOf, room_of, crossing_read, NetRunIs, room_after}
 use Rattle.net.specs.declared.NetRun.{NetRun}
+
+one_or_none : (b : Bool) → from_bool b ≡ bit b
+one_or_none true = refl
+one_or_none false = refl
 
 -- a crossing's net, with no check but of the room
 module _ (X : Crossing) (room : List ℕ) where
@@ -51,17 +60,17 @@ module _ (X : Crossing) (room : List ℕ) where
         rw short,
       )
 
-  pub run_fits : (n : ℕ) → n ≡ length (net_text X) → n ≤ length room → (outcome : Outcome) → outcome ≡ done → (locked : ℕ) (position : List ℕ)
-      → FiredOut X locked position → (after : List ℕ) → after ≡ with_text (net_text X) room
-      → Runs (record { outcome = outcome; length = n; locked = locked; position = position }) after
+  pub run_fits : (n : ℕ) → n ≡ length (net_text X) → n ≤ length room → (outcome : Outcome) → outcome ≡ done → (locked : Bool) (told : ℕ) → told ≡ from_bool locked
+      → (position : List ℕ) → FiredOut X (bit locked) position → (after : List ℕ) → after ≡ with_text (net_text X) room
+      → Runs (record { outcome = outcome; length = n; locked = told; position = position }) after
   unfolding first_failing room_of
-  run_fits n is l outcome e locked position fired after holds =
+  run_fits n is l outcome e locked told tells position fired after holds =
       let fits : leb (length (net_text X)) (length room) ≡ true = le-leb (length (net_text X)) (length room) (omega arith) in (
         record {
-          locked = locked;
+          locked = bit locked;
           position = position;
           fired = λ _. fired;
-          answer = rw (fits, e, is);
+          answer = rw (fits, e, is, tells, one_or_none locked);
         },
         rw fits holds,
       )
@@ -124,12 +133,13 @@ module _ (s p room : List ℕ) where
       )
 
 -- the same of how reading both was left
-module _ (s p : List ℕ) (sheet : Sheet) (orders : Orders) (outcome : Outcome) (left : BothRead s p sheet orders outcome) (room : List ℕ) where
-  pub net_refused : (outcome.number ≡ 0 → ⊥) → NetRunIs s p (length room) (not_netted outcome) × (room ≡ room_after s p room)
-  net_refused n = rw (sym (both_refused s p sheet orders outcome left n)) at (refused_is s p room) n
+module _ (s p room : List ℕ) where
+  pub net_refused : (outcome : Outcome) → 0 < outcome.number → read_plan s p ≡ plan_refused outcome
+      → NetRunIs s p (length room) (not_netted outcome) × (room ≡ room_after s p room)
+  net_refused outcome some left = rw left at (refused_is s p room) (λ none. omega (arith, some))
 
-  pub net_read : outcome.number ≡ 0 → (r : NetRun) (after : List ℕ) → Runs (sheet_crossing sheet orders.ahead) room r after
-      → NetRunIs s p (length room) r × (after ≡ room_after s p room)
-  net_read e r after runs =
-      rw (sym (both_read s p sheet orders outcome left e)) at (read_is s p room) refl r after
-      (plan_runs sheet (valid_sheet s p sheet orders outcome left e) orders (valid_orders s p sheet orders outcome left e) room r after runs)
+  pub net_read : (table : List ℕ) (orders : Orders) (counts : Counts) → BothRead s p table orders (Ok counts) → (r : NetRun) (after : List ℕ)
+      → Runs (sheet_crossing (sheet_in counts.zones counts.carts table) orders.ahead) room r after → NetRunIs s p (length room) r × (after ≡ room_after s p room)
+  net_read table orders counts left r after runs =
+      rw left at (read_is s p room) refl r after
+      (plan_runs _ (valid_sheet s p table orders counts left) orders (valid_orders s p table orders counts left) room r after runs)

@@ -6,8 +6,9 @@ ghost use Rattle.crossing.specs.inner.Sound.{Sound};
 ghost use Rattle.crossing.specs.inner.Tables.{crossing_of, given_of};
 ghost use Rattle.net.specs.Netting.{text_fits, not_netted, RunOf, room_of, NetRunIs, room_after};
 
-use net_firing::fire_all;
+use net_firing::{Fired, fire_all};
 use net_text::{text_length, write_text};
+use plan::no_orders;
 use plan_reader::read_tables;
 use sheet_table::Table;
 use words::{Outcome, done, refused};
@@ -30,7 +31,7 @@ fn not_netted(outcome: Outcome) -> NetRun
         outcome,
         length: 0,
         locked: 0,
-        position: [0u8; 16],
+        position: [0; 16],
     }
 }
 
@@ -46,13 +47,12 @@ fn net_orders(sheet: &Table, ahead: &[u16; 128], room: &mut [u8]) -> NetRun
     if room.len() < length {
         return not_netted(refused(28, 0));
     }
-    let fired = fire_all(sheet, ahead);
+    let Fired { locked, position } = fire_all(sheet, ahead);
     write_text(sheet, ahead, room);
-    let position = fired.position;
     NetRun {
         outcome: done(),
         length,
-        locked: fired.locked,
+        locked: u8::from(locked),
         position,
     }
 }
@@ -62,14 +62,10 @@ pub fn net(s: &[u8], p: &[u8], room: &mut [u8]) -> NetRun
     ensures answer { NetRunIs s.now p.now (length room.old) result }
     ensures holds { room.new ≡ room_after s.now p.now room.old }
 {
-    let mut sheet = [0u32; 480];
-    let mut count = [0u8; 24];
-    let mut list = [0u8; 384];
-    let mut ahead = [0u16; 128];
-    let read = read_tables(s, p, &mut sheet, &mut count, &mut list, &mut ahead);
-    let outcome = read.outcome;
-    if outcome.number != 0 {
-        return not_netted(outcome);
+    let mut sheet = [0; 480];
+    let mut orders = no_orders();
+    match read_tables(s, p, &mut sheet, &mut orders) {
+        Ok(_) => net_orders(&sheet, &orders.ahead, room),
+        Err(refusal) => not_netted(refusal),
     }
-    net_orders(&sheet, &ahead, room)
 }

@@ -1,11 +1,11 @@
 // Orders written as a plan into lent room, and a plan read and written again.
 #![tactic(auto)]
 
-ghost use Rattle.std.specs.Prelude.{◌≡◌, ◌+◌, ◌≤◌, ◌<◌, length};
+ghost use Rattle.std.specs.Prelude.{◌≡◌, ◌+◌, ◌≤◌, ◌<◌, length, MatchResult};
 ghost use Rattle.std.proofs.lemmas.List.Edits.{sets};
 ghost use Rattle.plan.specs.Written.{count, list_bytes, written};
 ghost use Rattle.plan_writer.specs.Writing.{not_written, write_again, room_after};
-ghost use Rattle.plan_writer.specs.inner.Writing.{written_as, Writable, WritableList};
+ghost use Rattle.plan_writer.specs.inner.Writing.{Writable, WritableList};
 
 use plan::{Orders, no_orders, sum_of};
 use plan_reader::read_tables;
@@ -54,7 +54,8 @@ fn not_written(outcome: Outcome) -> PlanWritten
 
 // The plan read, and its orders written into the room.
 fn written_again(s: &[u8], p: &[u8], room: &mut [u8]) -> Result<PlanWritten, Outcome>
-    ensures answer { written_as result ≡ write_again s.now p.now (length room.old) }
+    ensures answer { MatchResult result (λ done. done ≡ write_again s.now p.now (length room.old))
+        (λ outcome. not_written outcome ≡ write_again s.now p.now (length room.old)) }
     ensures holds { room.new ≡ room_after s.now p.now room.old }
 {
     let mut table = [0u32; 480];

@@ -17,5 +17,5 @@ write_text-requires c = (c.requires, omega (arith, c.text_length-length.ensures,
 pub returns : goal.returns
 returns c =
     let (answer, holds) = run_fits _ _ _ c.text_length-length.ensures c.if-room-length.false _ c.done.ensures _ _
-    c.fire_all-fired.ensures _ c.write_text.ensures in
+    c.from.ensures _ c.fire_all-locked.ensures _ c.write_text.ensures in
     record { answer = answer; holds = holds }

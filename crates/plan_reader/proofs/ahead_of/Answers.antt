@@ -4,7 +4,7 @@ use Rattle.std.proofs.Common.{rules}
 use Rattle.words.specs.Lists.{entries}
 use Rattle.words.proofs.Entries.{length_entries, at_entry}
 use Rattle.sheet_table.specs.inner.Parts.{steps, zone}
-use Rattle.sheet_filling.proofs.Calls.{calls_give}
+use Rattle.words.proofs.Calls.{calls_give}
 use Rattle.plan_reader.specs.inner.Scan.{ahead_at, ahead_of}
 use Rattle.plan_reader.proofs.ahead_of.Goals as goal
 

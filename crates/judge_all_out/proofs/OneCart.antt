@@ -116,6 +116,7 @@ module _ (sheet ahead : List ℕ) where
   -- cart c has come from where it stands in `old` into its p-th zone
   pub record GoingOn (old left : List ℕ) (c p : ℕ) : Type 0 where
     pub cart_16 : c < 16
+    pub few : count c ≤ 8
     pub some : 0 < p
     pub not_past : p ≤ count c
     pub have_moved : HaveMoved X (set old c p) left
@@ -126,11 +127,8 @@ module _ (sheet ahead : List ℕ) where
     wants_table : pos old c < count c
     wants_table = omega (arith, can.wants, counted sheet ahead old left can.have_moved.standing c can.cart_16)
 
-    pub steps_few : count c ≤ 8
+    steps_few : count c ≤ 8
     steps_few = steps_8 sheet ahead old left can.have_moved.standing c can.cart_16
-
-    pub from_few : pos old c < 8
-    from_few = omega (arith, wants_table, steps_few)
 
     pub first_asked : 0 < pos old c → OnTable (8 * c + pos old c - 1)
     first_asked some = zone_asked old left can.have_moved c can.cart_16 some (omega (arith, wants_table)) (8 * c + pos old c - 1) refl
@@ -138,6 +136,7 @@ module _ (sheet ahead : List ℕ) where
     going_first : (more : List ℕ) → HaveMoved X (moved old c) more → GoingOn old more c (pos old c + 1)
     going_first more have = record {
       cart_16 = can.cart_16;
+      few = steps_few;
       some = omega arith;
       not_past = omega (arith, wants_table);
       have_moved = rw (add-one (pos old c)) have;
@@ -213,6 +212,7 @@ module _ (sheet ahead : List ℕ) where
         pub going_next : r ≡ true → (more : List ℕ) → LeftAt left more c (8 * c + p - 1) → GoingOn old more c (p + 1)
         going_next entry more joined = record {
           cart_16 = on.cart_16;
+          few = on.few;
           some = omega arith;
           not_past = omega arith;
           have_moved = moved_have (may_move.0 entry) more joined (p + 1) refl;

@@ -20,6 +20,10 @@ use Rattle.crossing.specs.inner.Tables.{crossing_by, fronts_of}
 use Rattle.crossing.proofs.Tables.{steps_is}
 use Rattle.crossing.proofs.Fronts.{fronts_are, fronts_absent}
 use Rattle.judge_entering.specs.inner.Lanes.{on_lane, mates_of, lanes_of, front_at}
+use Rattle.judge_entering.specs.inner.Times.{AtMost}
+
+pub lane_16 : (sheet : List ℕ) (c : ℕ) → AtMost 15 (parts.lane sheet) → get_or (parts.lane sheet) c 0 < 16
+lane_16 sheet c most = omega (arith, most c)
 
 module _ (sheet : List ℕ) where
   abbrev pub lane_of : ℕ → ℕ

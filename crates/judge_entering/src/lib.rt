@@ -28,6 +28,7 @@ use sheet_table::Table;
 pub type Lanes = [u16; 32];
 
 // The lanes of a sheet, in one pass over its carts.
+#[tactic(auto, using(crate::proofs::LaneLaws::lane_16))]
 pub fn lanes(sheet: &Table) -> Lanes
     requires { AtMost 15 (lane sheet.now) }
     ensures { result ≡ lanes_of sheet.now }
@@ -47,6 +48,7 @@ pub fn lanes(sheet: &Table) -> Lanes
 }
 
 // The set of the carts on cart c's lane.
+#[tactic(auto, using(crate::proofs::LaneLaws::lane_16))]
 pub fn mates(sheet: &Table, lanes: &Lanes, c: usize) -> u16
     requires { (c < 16) × AtMost 15 (lane sheet.now) × (lanes.now ≡ lanes_of sheet.now) }
     ensures { result ≡ mates_of sheet.now c }
@@ -55,6 +57,7 @@ pub fn mates(sheet: &Table, lanes: &Lanes, c: usize) -> u16
 }
 
 // For each lane the set of the carts on it; an absent cart is on none.
+#[tactic(auto, using(crate::proofs::LaneLaws::lane_16))]
 pub fn present_lanes(sheet: &Table) -> [u16; 16]
     requires { AtMost 15 (lane sheet.now) }
     ensures { result ≡ present_lanes sheet.now }

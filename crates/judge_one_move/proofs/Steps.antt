@@ -185,7 +185,8 @@ module _ (sheet ahead at left : List ℕ) (standing : Standing (crossing_of shee
 
             own_first : max (get_or (parts.arrival sheet) c 0) (front_time (member_before mates c) enter) ≡ ready X G (times_of enter) c 0
             own_first =
-                ap (max (get_or (parts.arrival sheet) c 0)) (rw (mates_are, before_front sheet c l (omega (arith, below))) (front_enters_lem sheet ahead enter c))
+                ap (max (get_or (parts.arrival sheet) c 0))
+                (rw (mates_are, before_front sheet c l (omega (arith, below))) (front_enters_lem sheet ahead enter c))
 
         -- from a zone into the next
         module _ (under_way : 0 < p) where
@@ -232,7 +233,8 @@ module _ (sheet ahead at left : List ℕ) (standing : Standing (crossing_of shee
         passing_most = rw x_is (step_times (k - 1) (omega arith)).0;
       }
 
-      pub out_moved : (more after : List ℕ) → ZoneLeft left leave more after (get_or (parts.zone sheet) x 0) c (get_or enter x 0 + get_or (parts.passing sheet) x 0)
+      pub out_moved : (more after : List ℕ)
+          → ZoneLeft left leave more after (get_or (parts.zone sheet) x 0) c (get_or enter x 0 + get_or (parts.passing sheet) x 0)
           → Running X G (moved at c) more after enter
       unfolding given_by
       out_moved more after gone =

@@ -35,7 +35,7 @@ pub fn no_ring() -> Ring
     }
 }
 
-// The zone that cart c wants at its position; 0 where it wants none.
+// The zone that cart c wants at its position; 0 where it wants none, as a chain shows it to C.
 pub fn wanted_zone(sheet: &Table, at: &[u8; 16], c: usize) -> usize
     requires { (c < 16) × (get_or (steps sheet.now) c 0 ≤ 8) × (wanted_in (steps sheet.now) (zone sheet.now) at.now c < 24) }
     ensures { result ≡ wanted_in (steps sheet.now) (zone sheet.now) at.now c }
@@ -140,6 +140,7 @@ fn ring_by(to: &[u8; 16], wanted: &[u8; 16], c: usize) -> Ring
     let mut zone = [0u8; 16];
     cart[0] = first as u8;
     zone[0] = wanted[first];
+    // How long the ring is shows only when its first cart comes again.
     let mut n = 1;
     let mut d = to[first] as usize;
     while d != first {

@@ -70,7 +70,8 @@ module _ (sheet ahead : List ℕ) where
     lane_few = omega (arith, on.running.sound.ranged.lane_most c)
 
     -- the table of the lanes has its mates
-    pub lane_mates : (table : List ℕ) (lane : ℕ) → table ≡ present_lanes sheet → lane ≡ get_or (parts.lane sheet) c 0 → get_or table lane 0 ≡ present_mates sheet c
+    pub lane_mates : (table : List ℕ) (lane : ℕ) → table ≡ present_lanes sheet → lane ≡ get_or (parts.lane sheet) c 0
+        → get_or table lane 0 ≡ present_mates sheet c
     lane_mates table lane are is = rw (are, is) (at_entry 16 (present_on sheet 16) (get_or (parts.lane sheet) c 0) lane_few)
 
     -- the zone that it wants decides, where the lane does not hold it

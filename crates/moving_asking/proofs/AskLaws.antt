@@ -1,23 +1,19 @@
 -- A request, by how reading sheet and plan was left.
-use Prim.Native.Nat.{ℕ}
+use Prim.Native.Nat.{ℕ, ◌<◌}
 use mathlib.Core.Path.{◌≡◌, refl, sym, ap, ◌∙◌}
 use mathlib.Core.Bool.{false}
 use mathlib.Core.List.{List}
 use native.Mathlib.Omega.{arith}
 use lib.Dec.{eqb}
-use Rattle.std.specs.Prelude.{Ok, Err}
 use borrow.Author.Tests.{ne_eqb}
 use Rattle.words.specs.declared.Outcome.{Outcome}
 use Rattle.sheet.specs.Reading.{sheet_of}
-use Rattle.sheet_filling.specs.inner.Filled.{sheet_in}
-use Rattle.sheet_reader.specs.declared.Counts.{Counts}
-use Rattle.plan.specs.Reading.{read_plan}
+use Rattle.sheet.specs.declared.Sheet.{Sheet}
+use Rattle.plan.specs.Reading.{plan_refused, plan_done, read_plan}
 use Rattle.plan.specs.declared.Orders.{Orders}
 use Rattle.plan.specs.declared.PlanRead.{PlanRead}
 use Rattle.plan.proofs.Readable.{readable_whole}
 use Rattle.plan.proofs.Further.{further_refused, further_read}
-use Rattle.plan_reader.specs.inner.Scan.{BothRead}
-use Rattle.plan_reader.proofs.ReadLaws.{both_refused, both_read}
 use Rattle.moving_record.specs.declared.Record.{Record}
 use Rattle.judge.specs.Judging.{orders_read}
 use Rattle.judge.proofs.Numbers.{read_below}
@@ -39,11 +35,9 @@ module _ (s p : List ℕ) (lent : Record) (cart : ℕ) where
       ap (λ (r : PlanRead). ask_of r.sheet r.orders lent cart) (readable_whole s p e)
       ∙ sym (further_read (not_moved (sheet_of s) (orders_read s p) lent cart) (has_moved lent cart) s p (request_checks (sheet_of s) (orders_read s p) lent cart) e)
 
--- the same of how reading both was left
-module _ (s p table : List ℕ) (orders : Orders) (lent : Record) (cart : ℕ) where
-  pub ask_refused : (outcome : Outcome) → BothRead s p table orders (Err outcome) → no_move outcome 0 ≡ ask s p lent cart
-  ask_refused outcome left =
-      rw (sym (both_refused s p table orders outcome left)) at (refused_is s p lent cart) (λ e. omega (arith, left.0, e))
+  -- the same of what reading both answered
+  pub ask_refused : (outcome : Outcome) → 0 < outcome.number → read_plan s p ≡ plan_refused outcome → no_move outcome 0 ≡ ask s p lent cart
+  ask_refused outcome some is = rw is at refused_is (λ e. omega (arith, some, e))
 
-  pub ask_read : (counts : Counts) → BothRead s p table orders (Ok counts) → ask_of (sheet_in counts.zones counts.carts table) orders lent cart ≡ ask s p lent cart
-  ask_read counts left = rw (sym (both_read s p table orders counts left)) at (read_is s p lent cart) refl
+  pub ask_read : (sheet : Sheet) (orders : Orders) → read_plan s p ≡ plan_done sheet orders → ask_of sheet orders lent cart ≡ ask s p lent cart
+  ask_read sheet orders is = rw is at read_is refl

@@ -1,5 +1,5 @@
 -- The chain, by how reading sheet and plan was left, and by what the test of record and cart told.
-use Prim.Native.Nat.{ℕ}
+use Prim.Native.Nat.{ℕ, ◌<◌}
 use mathlib.Core.Path.{◌≡◌, refl, sym, ap, ◌∙◌}
 use mathlib.Core.List.{List, []}
 use native.Mathlib.Omega.{arith}
@@ -9,16 +9,14 @@ use Rattle.words.specs.declared.Outcome.{Outcome}
 use Rattle.words.proofs.First.{pass_answers}
 use Rattle.sheet.specs.Reading.{sheet_of}
 use Rattle.sheet.specs.Valid.{Valid}
+use Rattle.sheet.specs.declared.Sheet.{Sheet}
 use Rattle.sheet_filling.specs.inner.Filled.{sheet_in}
-use Rattle.sheet_reader.specs.declared.Counts.{Counts}
 use Rattle.plan.specs.Valid.{ValidOrders}
-use Rattle.plan.specs.Reading.{read_plan}
+use Rattle.plan.specs.Reading.{plan_refused, plan_done, read_plan}
 use Rattle.plan.specs.declared.Orders.{Orders}
 use Rattle.plan.specs.declared.PlanRead.{PlanRead}
 use Rattle.plan.proofs.Readable.{readable_whole}
 use Rattle.plan.proofs.Further.{further_refused, further_read}
-use Rattle.plan_reader.specs.inner.Scan.{BothRead}
-use Rattle.plan_reader.proofs.ReadLaws.{both_refused, both_read}
 use Rattle.judge_entering.specs.inner.Lanes.{lanes_of}
 use Rattle.judge.specs.Judging.{orders_read}
 use Rattle.judge.proofs.Rings.{sheet_wanting, orders_listable}
@@ -43,14 +41,12 @@ module _ (s p : List ℕ) (lent : Record) (cart : ℕ) where
       ap (λ (r : PlanRead). why_of r.sheet r.orders lent cart) (readable_whole s p e)
       ∙ sym (further_read chain_refused (chain_from (sheet_of s) (orders_read s p) lent cart) s p (record_checks (sheet_of s) (orders_read s p) lent cart) e)
 
--- the same of how reading both was left
-module _ (s p table : List ℕ) (orders : Orders) (lent : Record) (cart : ℕ) where
-  pub why_refused : (outcome : Outcome) → BothRead s p table orders (Err outcome) → chain_refused outcome ≡ why s p lent cart
-  why_refused outcome left =
-      rw (sym (both_refused s p table orders outcome left)) at (refused_is s p lent cart) (λ e. omega (arith, left.0, e))
+  -- the same of what reading both answered
+  pub why_refused : (outcome : Outcome) → 0 < outcome.number → read_plan s p ≡ plan_refused outcome → chain_refused outcome ≡ why s p lent cart
+  why_refused outcome some is = rw is at refused_is (λ e. omega (arith, some, e))
 
-  pub why_read : (counts : Counts) → BothRead s p table orders (Ok counts) → why_of (sheet_in counts.zones counts.carts table) orders lent cart ≡ why s p lent cart
-  why_read counts left = rw (sym (both_read s p table orders counts left)) at (read_is s p lent cart) refl
+  pub why_read : (sheet : Sheet) (orders : Orders) → read_plan s p ≡ plan_done sheet orders → why_of sheet orders lent cart ≡ why s p lent cart
+  why_read sheet orders is = rw is at read_is refl
 
 -- and of what the test told of the tables
 module _ (table : List ℕ) (orders : Orders) (carts : ℕ) (lent : Record) (cart : ℕ) where

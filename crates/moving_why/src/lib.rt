@@ -66,6 +66,7 @@ fn chain_from(
     let mut zone = [0u8; 16];
     let mut n = 0;
     let mut c = asked;
+    // No range says how long the chain is: it ends at a cart that may move.
     loop {
         cart[n] = c as u8;
         zone[n] = wanted_zone(sheet, at, c) as u8;

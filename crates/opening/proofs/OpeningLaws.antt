@@ -40,6 +40,8 @@ module _ (s : List ℕ) (first least most : ℕ) (numbers : 0 < first) where
       go : Fine (Err outcome) → 0 < outcome.number
       go (numbered f) = f
 
+pub ruleset opening_says = (opening_between, opening_refused)
+
 -- from a number to itself is the number
 between_is : (a n : ℕ) → is_between a a n ≡ eqb n a
 between_is a n = go (dec_lt n a) (dec_lt a n)

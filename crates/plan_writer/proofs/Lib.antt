@@ -1,3 +1,3 @@
 pub mod WritingLaws
-pub mod AgainLaws
 pub mod SameBytes
+pub mod AgainLaws

@@ -1,6 +1,6 @@
 -- Finding a list, by what reading the plan answered and by the zone's number.
 use Prim.Native.Nat.{ℕ, zero, suc, ◌+◌, ◌-◌, ◌≤◌, ◌<◌}
-use mathlib.Core.Path.{◌≡◌, refl, sym, ap, ◌∙◌}
+use mathlib.Core.Path.{◌≡◌, refl, sym, ap, subst, ◌∙◌}
 use mathlib.Core.Bool.{true, false}
 use mathlib.Core.List.{List, [], ◌∷◌}
 use native.Mathlib.Omega.{arith}
@@ -13,17 +13,17 @@ use borrow.Author.Tests.{lt-ltb, le-ltb}
 use Rattle.words.specs.Checks.{Check, check, done, refused, first_failing}
 use Rattle.words.proofs.Entries.{entries_is}
 use Rattle.fields.specs.Field.{value}
+use Rattle.words.specs.declared.Outcome.{Outcome}
 use Rattle.sheet.specs.Reading.{sheet_of}
 use Rattle.sheet.specs.declared.Sheet.{Sheet}
 use Rattle.plan.specs.Layout.{count_at, count_of, cart_at}
-use Rattle.plan.specs.Reading.{read_plan}
+use Rattle.plan.specs.Reading.{plan_refused, plan_done, read_plan}
 use Rattle.plan.specs.Valid.{sum_below, passing_list}
 use Rattle.plan.specs.Written.{count, listed}
 use Rattle.plan.specs.declared.Orders.{Orders}
 use Rattle.plan.specs.declared.PlanRead.{PlanRead}
 use Rattle.plan.proofs.Further.{further_refused, further_read}
 use Rattle.plan.proofs.Shows.{ShowsList}
-use Rattle.plan.proofs.Visitors.{visitors_most}
 use Rattle.plan.proofs.Readable.{readable_whole, readable_sheet, readable_valid, readable_shows}
 use Rattle.plan_zone_list.specs.Finding.{not_found, list_found, find_list, FoundIs}
 use Rattle.plan_zone_list.specs.declared.ListFound.{ListFound}
@@ -110,23 +110,26 @@ module _ (s p : List ℕ) (zone : ℕ) where
         same k h = get_or-take (count orders zone) (drop start p) k 0 h ∙ get_or-drop start p k 0 ∙ ap (λ (x : ℕ). get_or p x 0) (place k) ∙ byte_value p
             (cart_at p zone k) ∙ ((shown zone l).cart_is k h).keeps
 
--- the same of whatever reading the plan answered
-module _ (s p : List ℕ) (zone : ℕ) (read : PlanRead) (is : read ≡ read_plan s p) where
-  pub list_refused : (read.outcome.number ≡ 0 → ⊥) → FoundIs s p zone (not_found read.outcome)
-  list_refused = rw is (refused_is s p zone)
+-- the same of what reading both gave
+pub list_refused : (s p : List ℕ) (zone : ℕ) (outcome : Outcome) → 0 < outcome.number → read_plan s p ≡ plan_refused outcome
+    → FoundIs s p zone (not_found outcome)
+list_refused s p zone outcome some e = rw e at (refused_is s p zone) (omega (arith, some))
 
-  pub list_unknown : read.outcome.number ≡ 0 → read.sheet.zones ≤ zone → FoundIs s p zone (not_found (refused 27 0))
-  list_unknown = rw is (unknown_is s p zone)
+module _ (s p : List ℕ) (zone : ℕ) (sheet : Sheet) (orders : Orders) (is : read_plan s p ≡ plan_done sheet orders) where
+  read : (read_plan s p).outcome.number ≡ 0
+  read = ap (λ (r : PlanRead). r.outcome.number) is
 
-  pub list_zones : read.outcome.number ≡ 0 → read.sheet.zones ≤ 24
-  list_zones = rw is (λ e. (readable_sheet s p e).zones_most)
+  pub list_unknown : sheet.zones ≤ zone → FoundIs s p zone (not_found (refused 27 0))
+  list_unknown = subst (λ (r : PlanRead). r.sheet.zones ≤ zone → FoundIs s p zone (not_found (refused 27 0))) is (unknown_is s p zone read)
 
-  pub list_counts : read.outcome.number ≡ 0 → length read.orders.count ≡ 24
-  list_counts = rw is (λ e. (readable_valid s p e).shaped.count_24)
+  pub list_zones : sheet.zones ≤ 24
+  list_zones = subst (λ (r : PlanRead). r.sheet.zones ≤ 24) is (readable_sheet s p read).zones_most
 
-  pub list_few : read.outcome.number ≡ 0 → zone < read.sheet.zones → count read.orders zone ≤ 16
-  list_few = rw is (λ e l. omega (arith, ((readable_valid s p e).list zone l).all_visitors, visitors_most (read_plan s p).sheet zone))
+  pub list_counts : length orders.count ≡ 24
+  list_counts = subst (λ (r : PlanRead). length r.orders.count ≡ 24) is (readable_valid s p read).shaped.count_24
 
-  pub list_found_lem : read.outcome.number ≡ 0 → zone < read.sheet.zones → (sum : ℕ) → sum ≡ sum_below zone (count read.orders) → FoundIs s p zone
-      (record { outcome = read.outcome; start = 5 + zone + sum; length = count read.orders zone })
-  list_found_lem = rw is (found_is s p zone)
+  pub list_found_lem : zone < sheet.zones → (sum : ℕ) → sum ≡ sum_below zone (count orders) → FoundIs s p zone
+      (record { outcome = done; start = 5 + zone + sum; length = count orders zone })
+  list_found_lem =
+      subst (λ (r : PlanRead). zone < r.sheet.zones → (sum : ℕ) → sum ≡ sum_below zone (count r.orders) → FoundIs s p zone
+      (record { outcome = r.outcome; start = 5 + zone + sum; length = count r.orders zone })) is (found_is s p zone read)

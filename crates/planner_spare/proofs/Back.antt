@@ -5,19 +5,19 @@ use mathlib.Core.List.{List, [], ◌∷◌}
 use native.Mathlib.Decide.{ℕ_discrete}
 use native.Mathlib.Nat.{le_refl}
 use native.Mathlib.Omega.{arith}
-use lib.ListN.{length, get_or, set, take, drop, replicate, length-set, take-append-drop}
-use lib.Seq.{get_or-set_same, get_or-set_other, set-set, set-get_or, take-suc, take-take, drop-cons, drop-length, get_or-take, length-take-le}
+use lib.ListN.{length, get_or, set, take, drop, replicate, length-set}
+use lib.Seq.{get_or-set_same, get_or-set_other, set-set, set-get_or, take-suc, take-length, drop-cons, drop-length}
+use Rattle.std.specs.Prelude.{Option}
 use Rattle.words.specs.Lists.{entries}
 use Rattle.moves.specs.System.{pos}
 use Rattle.moves.specs.Moves.{moved}
 use Rattle.moves.specs.Runs.{after}
 use Rattle.moves.specs.Values.{put}
 use Rattle.moves.proofs.Positions.{moved_same, zeros_pos}
-use Rattle.moves.proofs.Runs.{after_length, after_up, after_append}
+use Rattle.moves.proofs.Runs.{after_length, after_append}
 use Rattle.moves.proofs.Values.{put_same, put_other}
 use Rattle.routes.specs.Crossing.{Crossing, steps}
-use Rattle.routes.specs.Moves.{moves_of, system}
-use Rattle.routes.proofs.Moves.{moves_most, out_are}
+use Rattle.routes.specs.Moves.{moves_of}
 use Rattle.times.specs.Times.{Given, finish}
 use Rattle.sheet_table.specs.inner.Parts as parts
 use Rattle.judge_one_move.proofs.Stored.{most_stored}
@@ -43,7 +43,7 @@ after_next s order i l = ap (after s) (take-suc order i 0 l) ∙ after_append s 
 
 -- ---- the spare times so far
 
-module _ (sheet rears behind visit enter order : List ℕ) (made finishing : ℕ) where
+module _ (sheet : List ℕ) (rears : List (Option ℕ)) (behind visit enter order : List ℕ) (finishing : ℕ) where
   abbrev X : Crossing
   X = crossing_behind sheet behind
 
@@ -56,40 +56,38 @@ module _ (sheet rears behind visit enter order : List ℕ) (made finishing : ℕ
 
   -- the values worked back to the first k moves
   abbrev back : Given → ℕ → ℕ → ℕ → ℕ
-  back G k = worked_back (rule G) (λ _ _. 0) (after lanes (take k order)) (drop k (take made order))
+  back G k = worked_back (rule G) (λ _ _. 0) (after lanes (take k order)) (drop k order)
 
   -- the carts stand where the first k moves bring them, and the table holds the spare times worked out from the others
   pub record BackTo (k : ℕ) (at spare : List ℕ) : Type 0 where
-    pub few : k ≤ made
+    pub few : k ≤ length order
     pub at_is : at ≡ after lanes (take k order)
     pub sized : length spare ≡ 128
     pub most : AtMost finishing spare
     pub holds : (G : Given) → PassingIs (parts.passing sheet) G → (c j : ℕ) → j < steps X c → times_of spare c j ≡ back G k c j
 
-  pub back_start : (at spare : List ℕ) → SpareReady sheet rears behind visit enter order made finishing spare
-      → at ≡ entries 16 0 (λ c. moves_of (get_or (parts.steps sheet) c 0)) → BackTo made at spare
+  pub back_start : (at spare : List ℕ) → SpareReady sheet rears behind visit enter order finishing spare
+      → at ≡ entries 16 0 (λ c. moves_of (get_or (parts.steps sheet) c 0)) → BackTo (length order) at spare
   unfolding worked_back
   back_start at spare ready out = record {
-    few = le_refl made;
-    at_is = out ∙ sym (behind_out sheet behind) ∙ sym ready.run_ends;
+    few = le_refl (length order);
+    at_is = out ∙ sym (behind_out sheet behind) ∙ sym ready.run_ends ∙ ap (after lanes) (sym (take-length order));
     sized = rw ready.spare_none refl;
     most = λ x. rw ready.spare_none (omega (arith, zeros_pos 128 x));
     holds = λ G _ c j _. rw (ready.spare_none, none) (zeros_pos 128 (8 * c + j));
   }
     where
-      none : drop made (take made order) ≡ []
-      none =
-          let whole : length (take made order) ≡ made = length-take-le made order (omega (arith, ready.order_144, ready.few)) in
-          ap (λ (n : ℕ). drop n (take made order)) (sym whole) ∙ drop-length (take made order)
+      none : drop (length order) order ≡ []
+      none = drop-length order
 
-  pub back_end : (k : ℕ) (at spare : List ℕ) → k ≤ 0 → BackTo k at spare → SpareTimes sheet behind enter order made finishing spare
+  pub back_end : (k : ℕ) (at spare : List ℕ) → k ≤ 0 → BackTo k at spare → SpareTimes sheet behind enter order finishing spare
   unfolding spare_time
   back_end k at spare none to = record {
     spare_is = λ G given is c j h.
         to.holds G given c j h
         ∙ ap (λ (n : ℕ). back G n c j) {x = k} {y = 0} (omega arith)
-        ∙ ap (λ (f : ℕ). worked_back (spare_rule X G (times_of enter) f) (λ _ _. 0) lanes (take made order) c j) is
-        ∙ ap (λ (s : List ℕ). worked_back (spare_rule X G (times_of enter) (finish X G (times_of enter))) (λ _ _. 0) s (take made order) c j)
+        ∙ ap (λ (f : ℕ). worked_back (spare_rule X G (times_of enter) f) (λ _ _. 0) lanes order c j) is
+        ∙ ap (λ (s : List ℕ). worked_back (spare_rule X G (times_of enter) (finish X G (times_of enter))) (λ _ _. 0) s order c j)
         (sym (behind_start sheet behind));
     spare_128 = to.sized;
     spare_most = to.most;
@@ -97,11 +95,8 @@ module _ (sheet rears behind visit enter order : List ℕ) (made finishing : ℕ
 
   -- ---- one move taken back: the one after the first i
 
-  module _ (spare₀ : List ℕ) (ready : SpareReady sheet rears behind visit enter order made finishing spare₀)
+  module _ (spare₀ : List ℕ) (ready : SpareReady sheet rears behind visit enter order finishing spare₀)
       (i k : ℕ) (e : k ≡ suc i) (at spare : List ℕ) (to : BackTo k at spare) where
-    abbrev run : List ℕ
-    run = take made order
-
     abbrev cart : ℕ
     cart = get_or order i 0
 
@@ -110,10 +105,10 @@ module _ (sheet rears behind visit enter order : List ℕ) (made finishing : ℕ
     s = after lanes (take i order)
 
     room : i < length order
-    room = omega (arith, to.few, ready.few, ready.order_144)
+    room = omega (arith, to.few)
 
-    pub turn_cart : cart < 16
-    turn_cart = ready.order_below i (omega (arith, to.few))
+    turn_cart : cart < 16
+    turn_cart = ready.order_below i room
 
     inside : cart < length s
     inside = let sized : length s ≡ 16 = after_length lanes (take i order) in omega (arith, turn_cart)
@@ -140,40 +135,16 @@ module _ (sheet rears behind visit enter order : List ℕ) (made finishing : ℕ
     counted : steps X cart ≡ get_or (parts.steps sheet) cart 0
     counted = behind_steps sheet behind cart turn_cart
 
-    -- no cart is past out
-    pub turn_few : step ≤ 8
-    turn_few =
-        let past : pos (after lanes (take k order)) cart ≤ pos (system X).out cart = rw rest_out at
-        (after_up (after lanes (take k order)) (drop k run) cart) in
-        omega (
-          arith,
-          step_is,
-          turn_some,
-          ap (λ (l : List ℕ). pos l cart) to.at_is,
-          out_are X cart,
-          ap moves_of counted,
-          moves_most
-              (get_or (parts.steps sheet) cart 0),
-          ready.tables.routed.routes.few cart,
-        )
-      where
-        rest_out : after (after lanes (take k order)) (drop k run) ≡ (system X).out
-        rest_out =
-            ap (λ (l : List ℕ). after (after lanes l) (drop k run)) (sym (take-take k made order to.few))
-            ∙ sym (after_append lanes (take k run) (drop k run))
-            ∙ ap (after lanes) (take-append-drop k run)
-            ∙ ready.run_ends
-
     module _ (G : Given) (given : PassingIs (parts.passing sheet) G) where
       -- the values so far
       abbrev later : ℕ → ℕ → ℕ
-      later = worked_back (rule G) (λ _ _. 0) (moved s cart) (drop (suc i) run)
+      later = worked_back (rule G) (λ _ _. 0) (moved s cart) (drop (suc i) order)
 
       holds_later : (d q : ℕ) → q < steps X d → times_of spare d q ≡ later d q
       holds_later d q h =
           to.holds G given d q h
           ∙ ap (λ (n : ℕ). back G n d q) e
-          ∙ ap (λ (l : List ℕ). worked_back (rule G) (λ _ _. 0) l (drop (suc i) run) d q) (after_next lanes order i room)
+          ∙ ap (λ (l : List ℕ). worked_back (rule G) (λ _ _. 0) l (drop (suc i) order) d q) (after_next lanes order i room)
 
       back_put : (d q : ℕ) → back G i d q ≡ put later cart step (rule G later cart step) d q
       unfolding worked_back
@@ -181,10 +152,8 @@ module _ (sheet rears behind visit enter order : List ℕ) (made finishing : ℕ
           ap (λ (l : List ℕ). worked_back (rule G) (λ _ _. 0) s l d q) dropped
           ∙ ap (λ (p : ℕ). put later cart p (rule G later cart p) d q) (sym step_is)
         where
-          dropped : drop i run ≡ cart ∷ drop (suc i) run
-          dropped =
-              let whole : length run ≡ made = length-take-le made order (omega (arith, ready.order_144, ready.few)) in
-              drop-cons run i 0 (omega (arith, to.few)) ∙ ap (λ (d : ℕ). d ∷ drop (suc i) run) (get_or-take made order i 0 (omega (arith, to.few)))
+          dropped : drop i order ≡ cart ∷ drop (suc i) order
+          dropped = drop-cons order i 0 room
 
       -- a step that is not this one keeps its value
       back_other : (d q : ℕ) → q < steps X d → ¬ ((d ≡ cart) × (q ≡ step)) → times_of spare d q ≡ back G i d q

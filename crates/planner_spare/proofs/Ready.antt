@@ -6,7 +6,7 @@ use mathlib.Core.List.{List, [], ◌∷◌}
 use native.Mathlib.Nat.{le_of_suc-le-suc}
 use native.Mathlib.Omega.{arith}
 use lib.ListN.{length, get_or, take, replicate}
-use lib.Seq.{get_or-take, length-take-le}
+use Rattle.std.specs.Prelude.{Option}
 use Rattle.words.specs.Limits.{most_time}
 use Rattle.sets.specs.inner.Member.{has}
 use Rattle.moves.specs.System.{System, carts, start}
@@ -35,7 +35,7 @@ run_below S s [] is k h = absurd (omega arith)
 run_below S s (c ∷ run) is zero h = permitted_cart S s c is.0
 run_below S s (c ∷ run) is (suc k) h = run_below S (moved s c) run is.1 k (le_of_suc-le-suc h)
 
-module _ (sheet rears ahead behind visit : List ℕ) where
+module _ (sheet : List ℕ) (rears : List (Option ℕ)) (ahead behind visit : List ℕ) where
   abbrev X : Crossing
   X = crossing_behind sheet behind
 
@@ -51,7 +51,7 @@ module _ (sheet rears ahead behind visit : List ℕ) where
       → RoutesOnce (parts.steps sheet) (parts.zone sheet) → Places (parts.steps sheet) (parts.zone sheet) visit → AtMost most_time (parts.passing sheet)
       → finishing ≡ largest (last_leaving (parts.steps sheet) (parts.passing sheet) enter) 16
       → ((c j d : ℕ) → j < steps X c → has (get_or behind (8 * c + j) 0) d ≡ true → Visits X d (zone X c j))
-      → rears ≡ rears_of sheet → SpareReady sheet rears behind visit enter order made finishing (replicate 128 0)
+      → rears ≡ rears_of sheet → SpareReady sheet rears behind visit enter (take made order) finishing (replicate 128 0)
   settled_ready G at left enter order made finishing settled out routed places passing_most is visits rears_are = record {
     tables = record {
       routed = routed;
@@ -61,20 +61,12 @@ module _ (sheet rears ahead behind visit : List ℕ) where
       behind_visits = visits;
       rears_are = rears_are;
     };
-    order_144 = settled.order_144;
-    few = settled.few;
-    order_below = below;
+    order_below = λ k h. omega (
+      arith,
+      run_below (system A) (start (system A)) (take made order) settled.is_run k h,
+      carts_16 (parts.steps sheet) (parts.zone sheet) (fronts_of sheet) ahead,
+    );
     run_ends = ap (λ (n : ℕ). after (replicate n 0) (take made order)) (sym (carts_16 (parts.steps sheet) (parts.zone sheet) (fronts_of sheet) ahead))
         ∙ settled.run_ends ∙ out ∙ same_out;
     spare_none = refl;
   }
-    where
-      below : (k : ℕ) → k < made → get_or order k 0 < 16
-      below k h =
-          let whole : length (take made order) ≡ made = length-take-le made order (omega (arith, settled.order_144, settled.few)) in
-          omega (
-            arith,
-            run_below (system A) (start (system A)) (take made order) settled.is_run k (omega arith),
-            carts_16 (parts.steps sheet) (parts.zone sheet) (fronts_of sheet) ahead,
-            get_or-take made order k 0 h,
-          )

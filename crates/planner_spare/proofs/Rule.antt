@@ -1,5 +1,5 @@
 -- The tables' spare time of a step is the rule's, where they hold those of the other steps.
-use Prim.Native.Nat.{ℕ, zero, suc, ◌+◌, ◌*◌, ◌-◌, ◌<◌, min}
+use Prim.Native.Nat.{ℕ, suc, ◌+◌, ◌*◌, ◌-◌, ◌<◌, min}
 use mathlib.Core.Path.{◌≡◌, refl, sym, ap, ◌∙◌}
 use mathlib.Core.Logic.{◌↔◌}
 use mathlib.Core.Bool.{true}
@@ -8,6 +8,7 @@ use native.Mathlib.Decide.{ℕ_discrete, dec_lt}
 use native.Mathlib.Omega.{arith}
 use lib.ListN.{get_or}
 use borrow.Author.Tests.{lt-ltb, le-ltb, eq-eqb, ne_eqb}
+use Rattle.std.specs.Prelude.{Option, Some, None}
 use Rattle.sets.specs.inner.Member.{has}
 use Rattle.routes.specs.Crossing.{Crossing, route, steps, zone, step_in}
 use Rattle.routes.specs.inner.Crossing.{Visits}
@@ -22,13 +23,13 @@ use Rattle.judge_entering.specs.Times.{times_of}
 use Rattle.removal.specs.Spare.{least_of, alone, spare_rule}
 use Rattle.planner_visiting.proofs.Steps.{visit_place}
 use Rattle.planner_spare.specs.inner.Behind.{crossing_behind}
-use Rattle.planner_spare.specs.inner.Steps.{spare_in, alone_in, line_in, least_in, SpareTables}
+use Rattle.planner_spare.specs.inner.Steps.{spare_in, alone_in, with_rear, line_in, least_in, SpareTables}
 use Rattle.planner_spare.specs.inner.Runs.{PassingIs}
 use Rattle.planner_spare.proofs.Least.{least_empty, least_one, least_same}
 use Rattle.planner_spare.proofs.Behind.{behind_16, behind_below, behind_steps, behind_zone, behind_before}
 use Rattle.planner_spare.proofs.RearLaws.{rear_says}
 
-module _ (sheet rears behind visit enter : List ℕ) (finishing : ℕ)
+module _ (sheet : List ℕ) (rears : List (Option ℕ)) (behind visit enter : List ℕ) (finishing : ℕ)
     (tables : SpareTables sheet rears behind visit enter finishing) (G : Given) (given : PassingIs (parts.passing sheet) G) where
   abbrev X : Crossing
   X = crossing_behind sheet behind
@@ -82,27 +83,28 @@ module _ (sheet rears behind visit enter : List ℕ) (finishing : ℕ)
     line_is : (least : ℕ) → line_in rears spare c j least ≡ least_of (λ d. is_in_line X d j c) (λ d. u d 0) least 16
     line_is least = go (ℕ_discrete j 0)
       where
-        rear_of : (d : ℕ) → (get_or rears c 0 ≡ suc d) ↔ (is_front X c d ≡ true)
+        rear_of : (d : ℕ) → (get_or rears c None ≡ Some d) ↔ (is_front X c d ≡ true)
         rear_of d = rw tables.rears_are (rear_says sheet behind c d (behind_below sheet behind c j h))
 
-        in_line : (d : ℕ) → is_in_line X d j c ≡ true → get_or rears c 0 ≡ suc d
+        in_line : (d : ℕ) → is_in_line X d j c ≡ true → get_or rears c None ≡ Some d
         in_line d t = (rear_of d).1 ((line_says X d j c).0 t).1
 
-        first : j ≡ 0 → (k : ℕ) → get_or rears c 0 ≡ k → line_in rears spare c j least ≡ least_of (λ d. is_in_line X d j c) (λ d. u d 0) least 16
-        first begins zero e =
-            let none : line_in rears spare c j least ≡ least = rw (e, eq-eqb j 0 begins) in
-            none ∙ sym (least_empty _ _ least 16 (λ d _ t. omega (arith, in_line d t, e)))
-        first begins (suc d) e =
+        first : j ≡ 0 → (rear : Option ℕ) → get_or rears c None ≡ rear
+            → with_rear rear spare least ≡ least_of (λ d. is_in_line X d j c) (λ d. u d 0) least 16
+        first begins None e = sym (least_empty _ _ least 16 (λ d _ t. let clash = sym e ∙ in_line d t in cc))
+        first begins (Some d) e =
             let front = (rear_of d).0 e in
             let some : 0 < steps X d = ((front_says X c d).0 front).here in
-            let place : 8 * (suc d - 1) ≡ 8 * d + 0 = omega arith in
-            let one : line_in rears spare c j least ≡ min least (u d 0) = rw (e, eq-eqb j 0 begins, lt-ltb 0 (suc d) (omega arith), place, told d 0 some) in
+            let place : 8 * d ≡ 8 * d + 0 = omega arith in
+            let one : min least (get_or spare (8 * d) 0) ≡ min least (u d 0) = rw (place, told d 0 some) in
             one
             ∙ sym (least_one _ _ least 16 d (behind_below sheet behind d 0 some) ((line_says X d j c).1 (begins, front))
-            (λ k _ t. omega (arith, in_line k t, e)))
+            (λ k _ t. let same = sym (in_line k t) ∙ e in cc))
 
         go : Dec (j ≡ 0) → line_in rears spare c j least ≡ least_of (λ d. is_in_line X d j c) (λ d. u d 0) least 16
-        go (yes begins) = first begins (get_or rears c 0) refl
+        go (yes begins) =
+            let begin : line_in rears spare c j least ≡ with_rear (get_or rears c None) spare least = rw (eq-eqb j 0 begins) in
+            begin ∙ first begins (get_or rears c None) refl
         go (no later) =
             let none : line_in rears spare c j least ≡ least = rw (ne_eqb j 0 later) in
             none ∙ sym (least_empty _ _ least 16 (λ d _ t. later ((line_says X d j c).0 t).0))

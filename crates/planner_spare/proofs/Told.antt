@@ -4,7 +4,7 @@ use mathlib.Core.Path.{◌≡◌, refl, ap, ◌∙◌}
 use mathlib.Core.Bool.{Bool}
 use mathlib.Core.List.{List}
 use native.Mathlib.Omega.{arith}
-use lib.ListN.{get_or, take}
+use lib.ListN.{get_or}
 use Rattle.words.specs.Lists.{entries}
 use Rattle.sets.specs.inner.Member.{has}
 use Rattle.routes.specs.Crossing.{Crossing, steps, zone}
@@ -55,11 +55,11 @@ module _ (sheet behind : List ℕ) (before : ℕ → ℕ → ℕ → Bool) where
     unfolding crossing_behind finish
     finish_same G t = refl
 
-    pub spare_told : (enter order : List ℕ) (made finishing : ℕ) (spare : List ℕ)
-        → SpareTimes sheet behind enter order made finishing spare
+    pub spare_told : (enter order : List ℕ) (finishing : ℕ) (spare : List ℕ)
+        → SpareTimes sheet behind enter order finishing spare
         → (G : Given) → PassingIs (parts.passing sheet) G → finishing ≡ finish Y G (times_of enter)
-        → (c j : ℕ) → j < steps Y c → times_of spare c j ≡ spare_time Y G (take made order) (times_of enter) c j
+        → (c j : ℕ) → j < steps Y c → times_of spare c j ≡ spare_time Y G order (times_of enter) c j
     unfolding crossing_behind
-    spare_told enter order made finishing spare told G given is c j h =
+    spare_told enter order finishing spare told G given is c j h =
         told.spare_is G given (is ∙ finish_same G (times_of enter)) c j h
-        ∙ ap (λ (times : ℕ → ℕ → ℕ). times c j) (times_same G (take made order) (times_of enter))
+        ∙ ap (λ (times : ℕ → ℕ → ℕ). times c j) (times_same G order (times_of enter))

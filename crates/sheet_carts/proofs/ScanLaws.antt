@@ -77,3 +77,5 @@ module _ (sh : Sheet) (spot : List ℕ) (m i : ℕ) where
   pub lanes_end : m ≤ i → lanes_from sh spot (m - i) i ≡ sheet_done sh
   unfolding lanes_from
   lanes_end h = rw (left_zero m i h)
+
+pub ruleset finishing = (finish_refused, finish_lanes, lanes_refused, lanes_next, lanes_end)

@@ -20,19 +20,13 @@ fn is_early(sheet: &Table, i: usize) -> bool
     requires { i < 16 }
     ensures { result ≡ early (lane sheet.now) (arrival sheet.now) i }
 {
-    let l = sheet_table::lane(sheet, i);
-    let a = sheet_table::arrival(sheet, i);
-    for e in 0..i {
-        if sheet_table::lane(sheet, e) == l {
-            if a < sheet_table::arrival(sheet, e) {
-                return true;
-            }
-        }
-    }
-    false
+    let lane = sheet_table::lane(sheet, i);
+    let arrival = sheet_table::arrival(sheet, i);
+    (0..i).any(|e| sheet_table::lane(sheet, e) == lane && arrival < sheet_table::arrival(sheet, e))
 }
 
 // After all fields: no byte may follow (13), then the arrivals on each lane of m carts (14).
+#[tactic(auto, using(crate::proofs::ScanLaws::finishing))]
 fn finished(
     s: &[u8],
     at: usize,

@@ -43,3 +43,7 @@ module _ (s : List ℕ) where
     pub zones_end : n ≤ z → zones_from s (n - z) z sh at ≡ count_from s sh at
     unfolding zones_from
     zones_end l = rw (left_zero n z l)
+
+pub ruleset beginning = (begins_refused, begins)
+
+pub ruleset zone_turns = (zones_turn, zones_end)

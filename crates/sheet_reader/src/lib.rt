@@ -24,7 +24,7 @@ pub struct Counts {
 }
 
 // The gaps of n zones into a sheet that has no carts yet, and the cart count; answers it with the place after it.
-#[tactic(auto, using(fields::proofs::TakingLaws::ways_on, crate::proofs::Parts::zones_turn, crate::proofs::Parts::zones_end), unfolding(crate::specs::inner::Scan::count_from))]
+#[tactic(auto, using(fields::proofs::TakingLaws::ways_on, crate::proofs::Parts::zone_turns), unfolding(crate::specs::inner::Scan::count_from))]
 fn read_counts(
     s: &[u8],
     start: usize,
@@ -65,6 +65,7 @@ fn read_counts(
 }
 
 // The whole pass, into a table of zeros: the counts, and the sheet is in the table, or the first of checks 1 to 14 that fails.
+#[tactic(auto, using(opening::proofs::OpeningLaws::opening_says, crate::proofs::Parts::beginning))]
 pub fn fill(s: &[u8], sheet: &mut Table) -> Result<Counts, Outcome>
     requires { sheet.old ≡ replicate 480 0 }
     ensures { Leaves sheet_refused (read_sheet s.now)

@@ -1,3 +1,4 @@
+-- Each turn in which a cart moves leaves fewer moves to make; after one in which none moves the run is at its end.
 use mathlib.Core.Path.{refl}
 use Rattle.crossing.proofs.Tables.{carts_16}
 use Rattle.judge_running.proofs.Inside.{present_inside}

@@ -1,5 +1,5 @@
-use native.Mathlib.Omega.{arith}
-use Rattle.judge_all_out.proofs.OneCart.{steps_few, first_asked, going_in, going_over, zone_left_asked, x_asked, gone_held}
+-- The cart leaves each zone as it goes into the next, and the last as it comes out.
+use Rattle.judge_all_out.proofs.OneCart.{first_asked, going_in, going_over, zone_left_asked, x_asked, gone_held}
 use Rattle.judge_all_out.proofs.OneCart.{going_next, out_asked, gone_out}
 use Rattle.judge_all_out.proofs.go_on.Goals as goal
 use Rattle.judge_all_out.proofs.go_on.Goals.{then-from-gt0, else-from-gt0}
@@ -18,14 +18,8 @@ loop-p-init c = elim c.if-from-gt0.branch [
   | else-from-gt0 w ↦ rw w.left-is (going_in _ _ _ _ _ c.requires w.if-from-gt0.false)
 ]
 
-pub overflow_add-x : goal.overflow_add-x
-overflow_add-x c = omega (arith, c.requires.cart_16, c.loop-p.invariant.not_past, steps_few _ _ _ _ _ c.requires)
-
 pub may_enter-requires : goal.may_enter-requires
 may_enter-requires c = x_asked _ _ _ _ _ _ c.loop-p.invariant (rw c.steps-k.ensures at c.loop-p-test.true)
-
-pub overflow_cast-result : goal.overflow_cast-result
-overflow_cast-result c = omega (arith, c.loop-p.invariant.not_past, steps_few _ _ _ _ _ c.requires)
 
 pub returns-then-not-may_enter : goal.returns-then-not-may_enter
 returns-then-not-may_enter c = gone_held _ _ _ _ _ _ c.loop-p.invariant (rw c.steps-k.ensures at
@@ -45,9 +39,6 @@ pub loop-p-preserved : goal.loop-p-preserved
 loop-p-preserved c = going_next _ _ _ _ _ _ c.loop-p.invariant (rw c.steps-k.ensures at
     c.loop-p-test.true) _ c.may_enter.ensures c.if-not-may_enter.false _ (rw c.zone-in-loop-p.ensures at c.join-in-loop-p.ensures)
 
-pub overflow_add-c-2 : goal.overflow_add-c-2
-overflow_add-c-2 c = omega (arith, c.requires.cart_16, c.steps-k.ensures, steps_few _ _ _ _ _ c.requires)
-
 pub zone-requires-2 : goal.zone-requires-2
 zone-requires-2 c = rw c.steps-k.ensures (out_asked _ _ _ _ _ _ c.loop-p.invariant
     (rw c.steps-k.ensures at c.loop-p-test.false)).0
@@ -59,12 +50,6 @@ join-requires-2 c = (
   c.requires.cart_16,
   c.loop-p.invariant.have_moved.left_24,
 )
-
-pub overflow_add-result : goal.overflow_add-result
-overflow_add-result c = omega (arith, c.steps-k.ensures, steps_few _ _ _ _ _ c.requires)
-
-pub overflow_cast-result-2 : goal.overflow_cast-result-2
-overflow_cast-result-2 c = omega (arith, c.steps-k.ensures, steps_few _ _ _ _ _ c.requires)
 
 pub returns : goal.returns
 returns c = rw c.steps-k.ensures (gone_out _ _ _ _ _ _ c.loop-p.invariant

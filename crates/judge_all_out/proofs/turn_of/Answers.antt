@@ -1,3 +1,4 @@
+-- The lowest cart of the turn is held, or goes on and stays inside, or comes out.
 use mathlib.Core.Path.{refl}
 use Rattle.crossing.proofs.Tables.{steps_is}
 use Rattle.judge_all_out.proofs.OneCart.{stands_free, stands_held}

@@ -8,30 +8,6 @@ use Rattle.judge_entering.proofs.lanes.Goals.{then-steps-gt0, else-steps-gt0}
 pub loop-c-init : goal.loop-c-init
 loop-c-init c = (made_start _, latest_start _)
 
-pub offset_bounds-lanes-l : goal.offset_bounds-lanes-l
-offset_bounds-lanes-l c = omega (arith, c.lane-l.ensures, c.requires c.loop-c.c)
-
-pub bounds-lanes-l : goal.bounds-lanes-l
-bounds-lanes-l c = omega (arith, c.lane-l.ensures, c.requires c.loop-c.c)
-
-pub offset_bounds-lanes-l-in-loop-c : goal.offset_bounds-lanes-l-in-loop-c
-offset_bounds-lanes-l-in-loop-c c = omega (arith, c.lane-l.ensures, c.requires c.loop-c.c)
-
-pub bounds-lanes-l-in-loop-c : goal.bounds-lanes-l-in-loop-c
-bounds-lanes-l-in-loop-c c = omega (arith, c.lane-l.ensures, c.requires c.loop-c.c)
-
-pub offset_bounds-latest-l : goal.offset_bounds-latest-l
-offset_bounds-latest-l c = omega (arith, c.lane-l.ensures, c.requires c.loop-c.c)
-
-pub bounds-latest-l : goal.bounds-latest-l
-bounds-latest-l c = omega (arith, c.lane-l.ensures, c.requires c.loop-c.c)
-
-pub offset_bounds-latest-l-then-steps-gt0 : goal.offset_bounds-latest-l-then-steps-gt0
-offset_bounds-latest-l-then-steps-gt0 c = omega (arith, c.lane-l.ensures, c.requires c.loop-c.c)
-
-pub bounds-latest-l-then-steps-gt0 : goal.bounds-latest-l-then-steps-gt0
-bounds-latest-l-then-steps-gt0 c = omega (arith, c.lane-l.ensures, c.requires c.loop-c.c)
-
 pub loop-c-preserved : goal.loop-c-preserved
 loop-c-preserved c = let inside : c.lane-l.result < 16 = omega (arith, c.lane-l.ensures, c.requires c.loop-c.c) in (
   elim c.if-steps-gt0.branch [

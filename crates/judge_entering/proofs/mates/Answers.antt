@@ -3,11 +3,5 @@ use Rattle.judge_entering.proofs.LaneLaws.{mates_entry}
 use native.Mathlib.Omega.{arith}
 use Rattle.judge_entering.proofs.mates.Goals as goal
 
-pub offset_bounds-lanes-lane : goal.offset_bounds-lanes-lane
-offset_bounds-lanes-lane c = omega (arith, c.lane.ensures, c.requires.1 c.args.c)
-
-pub bounds-lanes-lane : goal.bounds-lanes-lane
-bounds-lanes-lane c = omega (arith, c.lane.ensures, c.requires.1 c.args.c)
-
 pub returns : goal.returns
 returns c = mates_entry _ _ _ _ (omega (arith, c.lane.ensures, c.requires.1 c.args.c)) c.lane.ensures c.requires.2

@@ -7,18 +7,6 @@ use Rattle.judge_entering.proofs.present_lanes.Goals.{then-steps-gt0, else-steps
 pub loop-c-init : goal.loop-c-init
 loop-c-init c = present_start _
 
-pub offset_bounds-on-l : goal.offset_bounds-on-l
-offset_bounds-on-l c = omega (arith, c.lane-l.ensures, c.requires c.loop-c.c)
-
-pub bounds-on-l : goal.bounds-on-l
-bounds-on-l c = omega (arith, c.lane-l.ensures, c.requires c.loop-c.c)
-
-pub offset_bounds-on-l-then-steps-gt0 : goal.offset_bounds-on-l-then-steps-gt0
-offset_bounds-on-l-then-steps-gt0 c = omega (arith, c.lane-l.ensures, c.requires c.loop-c.c)
-
-pub bounds-on-l-then-steps-gt0 : goal.bounds-on-l-then-steps-gt0
-bounds-on-l-then-steps-gt0 c = omega (arith, c.lane-l.ensures, c.requires c.loop-c.c)
-
 pub loop-c-preserved : goal.loop-c-preserved
 loop-c-preserved c =
     elim c.if-steps-gt0.branch [

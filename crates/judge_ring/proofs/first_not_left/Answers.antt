@@ -1,3 +1,4 @@
+-- The first entry that passes is the first of what is left of the list; after the last entry nothing is left.
 use mathlib.Core.Path.{sym, ap, ◌∙◌}
 use mathlib.Core.Bool.{not}
 use native.Mathlib.Omega.{arith}

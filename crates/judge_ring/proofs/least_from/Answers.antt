@@ -1,3 +1,4 @@
+-- After 16 carts nothing is left to pass but the last, which the lowest is not above.
 use mathlib.Core.Path.{sym, ◌∙◌}
 use native.Mathlib.Omega.{arith}
 use Rattle.judge_ring.proofs.Following.{least_start, least_turn, least_end}

@@ -1,3 +1,4 @@
+-- Each call of the closure gives the cart that the definition points to, and changes nothing.
 use Rattle.std.proofs.Common.{rules}
 use native.Mathlib.Omega.{arith}
 use Rattle.judge_ring.proofs.Made.{made_table, made_below}

@@ -10,7 +10,8 @@ present_lanes-on-requires c = c.requires.ranged.lane_most
 
 pub loop-going-init : goal.loop-going-init
 unfolding given_by
-loop-going-init c = rw c.restart.ensures.restarted (settling_start _ _ _ _ c.requires (carts_16 _ _ _ _) (rw c.restart.ensures.restarted at c.restart.ensures.room)
+loop-going-init c = rw c.restart.ensures.restarted (settling_start _ _ _ _ c.requires (carts_16 _ _ _ _)
+    (rw c.restart.ensures.restarted at c.restart.ensures.room)
     (asked_start _ _ c.requires.ranged.lane_most _ (rw c.present_lanes-on.ensures at c.foremost-going.ensures)))
 
 pub sweep-going-requires : goal.sweep-going-requires

@@ -2,11 +2,11 @@
 use Rattle.moving.proofs.Stored.{refused_holds, done_holds, done_inside}
 use Rattle.moving.proofs.oblakosh_move_cart.Goals as goal
 
-pub returns-then-a-ne0 : goal.returns-then-a-ne0
-returns-then-a-ne0 c = record { answer = c.ask-a.ensures; holds = refused_holds _ _ _ _ _ c.ask-a.ensures c.if-a-ne0.true }
-
 pub bounds-lent-cart : goal.bounds-lent-cart
-bounds-lent-cart c = done_inside _ _ _ _ _ c.ask-a.ensures c.if-a-ne0.false
+bounds-lent-cart c = done_inside _ _ _ _ _ c.ask-asked.ensures c.if-asked-eq0.true
 
-pub returns : goal.returns
-returns c = record { answer = c.ask-a.ensures; holds = done_holds _ _ _ _ _ c.ask-a.ensures c.if-a-ne0.false }
+pub returns-then-asked-eq0 : goal.returns-then-asked-eq0
+returns-then-asked-eq0 c = record { answer = c.ask-asked.ensures; holds = done_holds _ _ _ _ _ c.ask-asked.ensures c.if-asked-eq0.true }
+
+pub returns-else-asked-eq0 : goal.returns-else-asked-eq0
+returns-else-asked-eq0 c = record { answer = c.ask-asked.ensures; holds = refused_holds _ _ _ _ _ c.ask-asked.ensures c.if-asked-eq0.false }

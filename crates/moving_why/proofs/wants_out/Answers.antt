@@ -1,9 +1,7 @@
--- Both ways say what the test says.
-use borrow.Author.Tests.{eq-eqb, ne_eqb}
+-- What the test says, as a number.
+use mathlib.Core.Path.{◌∙◌}
+use Rattle.moving_asking.proofs.Bit.{bit_is}
 use Rattle.moving_why.proofs.wants_out.Goals as goal
 
-pub returns-then-wide-steps : goal.returns-then-wide-steps
-returns-then-wide-steps c = rw (eq-eqb _ _ (rw (c.wide.ensures.0, c.steps.ensures) at c.if-wide-steps.true))
-
 pub returns : goal.returns
-returns c = rw (ne_eqb _ _ (rw (c.wide.ensures.0, c.steps.ensures) at c.if-wide-steps.false))
+returns c = rw (c.from.ensures, c.steps.ensures) at c.from-2.ensures ∙ bit_is _

@@ -1,11 +1,7 @@
 -- What writing orders into a room asks of them.
-use Rattle.std.specs.Prelude.{ℕ, ◌≤◌, ◌<◌, List, [], length}
+use Rattle.std.specs.Prelude.{ℕ, ◌≤◌, ◌<◌, List, length}
 use Rattle.plan.specs.Written.{count, listed, written}
 use Rattle.plan.specs.declared.Orders.{Orders}
-
--- the counts and lists of orders, lent
-abbrev pub lent : List ℕ → List ℕ → Orders
-lent count list = record { count = count; list = list; ahead = [] }
 
 -- a zone's list of at most 16 carts, each a byte
 pub record WritableList (orders : Orders) (z : ℕ) : Type 0 where

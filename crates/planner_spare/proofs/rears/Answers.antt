@@ -1,37 +1,21 @@
-use Prim.Native.Nat.{ℕ}
-use mathlib.Core.Path.{ap, ◌∙◌}
+use mathlib.Core.Path.{sym, ◌∙◌}
 use native.Mathlib.Omega.{arith}
-use Rattle.words.specs.Lists.{entries}
-use Rattle.crossing.specs.inner.Tables.{fronts_of}
-use Rattle.planner_spare.specs.inner.Rears.{rear_among}
-use Rattle.planner_spare.proofs.RearLaws.{rear_start, front_most, rear_turn, rear_first}
+use Rattle.planner_spare.proofs.RearLaws.{filled_none, filled_more, filled_as_before, filled_all, front_below}
 use Rattle.planner_spare.proofs.rears.Goals as goal
-use Rattle.planner_spare.proofs.rears.Goals.{then-f-gt0, else-f-gt0}
-
-pub lanes-lanes-requires : goal.lanes-lanes-requires
-lanes-lanes-requires c = c.requires
+use Rattle.planner_spare.proofs.rears.Goals.{in-Some, in_default}
 
 pub loop-c-init : goal.loop-c-init
-loop-c-init c = (omega arith, rear_start _)
+loop-c-init c = filled_none _
 
 pub bounds-rears-f : goal.bounds-rears-f
-bounds-rears-f c = omega (
-  arith,
-  c.if-f-gt0.true,
-  front_most _ _ c.lanes-lanes.ensures _ _ c.loop-c-test.true c.front-f.ensures,
-)
+bounds-rears-f c = front_below _ _ c.lanes-lanes.ensures _ c.loop-c-test.true _ (sym c.front.ensures ∙ c.in-Some.is)
 
 pub loop-c-preserved : goal.loop-c-preserved
-loop-c-preserved c = (
-  omega arith,
-  elim c.if-f-gt0.branch [
-    | then-f-gt0 w ↦ w.rears-is ∙ rear_turn _ _ c.lanes-lanes.ensures _ _ c.loop-c-test.true
-        c.front-f.ensures _ _ w.if-f-gt0.true (omega arith) c.loop-c.invariant.1
-    | else-f-gt0 w ↦ w.rears-is ∙ c.loop-c.invariant.1 ∙ rear_first _ _ c.lanes-lanes.ensures _ _
-        c.loop-c-test.true c.front-f.ensures w.if-f-gt0.false
-  ],
-)
+loop-c-preserved c =
+    elim c.match-front.branch [
+      | in-Some w ↦ rw w.rears-is (filled_more _ _ c.lanes-lanes.ensures _ c.loop-c-test.true _ c.loop-c.invariant _ (sym c.front.ensures ∙ w.in-Some.is))
+      | in_default w ↦ rw w.rears-is (filled_as_before _ _ c.lanes-lanes.ensures _ c.loop-c-test.true _ c.loop-c.invariant (sym c.front.ensures ∙ w.in_default.is))
+    ]
 
 pub returns : goal.returns
-returns c = c.loop-c.invariant.1 ∙ ap (λ (n : ℕ). entries 16 0 (rear_among (fronts_of c.args.sheet.now) n))
-    (omega (arith, c.loop-c.invariant.0, c.loop-c-test.false))
+returns c = filled_all _ _ _ (omega arith) c.loop-c.invariant

@@ -3,7 +3,4 @@ use Rattle.planner_spare.proofs.Back.{BackTo}
 use Rattle.planner_spare.proofs.spare_times.Given as goal
 
 abbrev pub invariant-loop-k : goal.invariant-loop-k
-invariant-loop-k l = BackTo l.sheet l.rears l.behind l.visit l.enter l.order l.made l.finish l.k l.at l.spare
-
-abbrev pub decreases-loop-k : goal.decreases-loop-k
-decreases-loop-k l = l.k
+invariant-loop-k l = BackTo l.facts.sheet.now l.facts.rears.now l.facts.behind.now l.facts.visit.now l.facts.enter.now l.order l.facts.finish l.k l.at l.spare

@@ -1,5 +1,5 @@
 -- The spare time of one step, as the tables tell it where they hold those of the steps after it.
-use Rattle.std.specs.Prelude.{ℕ, ◌+◌, ◌*◌, ◌-◌, ◌≤◌, ◌<◌, min, ◌≡◌, true, ◌&&◌, List, get_or, ltb, eqb}
+use Rattle.std.specs.Prelude.{ℕ, ◌+◌, ◌*◌, ◌-◌, ◌≤◌, ◌<◌, min, ◌≡◌, true, List, get_or, ltb, eqb, Option, Some, None}
 use Rattle.words.specs.Lists.{pick}
 use Rattle.sets.specs.inner.Member.{has}
 use Rattle.routes.specs.Crossing.{steps, zone}
@@ -22,20 +22,22 @@ alone_in step_table passing enter spare finishing c j =
     (finishing - (get_or enter (8 * c + j) 0 + get_or passing (8 * c + j) 0))
 
 -- of a first step the least of that and of the spare time of "the first step of the lane's next cart behind it"
-abbrev pub line_in : List ℕ → List ℕ → ℕ → ℕ → ℕ → ℕ
-line_in rears spare c j least =
-    let rear = get_or rears c 0 in
-    pick (eqb j 0 && ltb 0 rear) (min least (get_or spare (8 * (rear - 1)) 0)) least
+abbrev pub with_rear : Option ℕ → List ℕ → ℕ → ℕ
+with_rear None spare least = least
+with_rear (Some d) spare least = min least (get_or spare (8 * d) 0)
+
+abbrev pub line_in : List (Option ℕ) → List ℕ → ℕ → ℕ → ℕ → ℕ
+line_in rears spare c j least = pick (eqb j 0) (with_rear (get_or rears c None) spare least) least
 
 -- the least of that and of the spare times of the steps behind
-abbrev pub least_in : List ℕ → List ℕ → List ℕ → List ℕ → List ℕ → List ℕ → ℕ → ℕ → ℕ → ℕ
+abbrev pub least_in : List ℕ → List (Option ℕ) → List ℕ → List ℕ → List ℕ → List ℕ → ℕ → ℕ → ℕ → ℕ
 least_in sheet rears behind visit enter spare finishing c j =
     least_of (has (get_or behind (8 * c + j) 0)) (spare_in visit spare (get_or (parts.zone sheet) (8 * c + j) 0))
     (line_in rears spare c j (alone_in (parts.steps sheet) (parts.passing sheet) enter spare finishing c j)) 16
 
 -- what is asked of the tables: the routes name a zone at most once, `visit` has the places of their steps, the carts behind a step visit its zone,
 -- `rears` has who is next behind on each lane, the times are in range, and no cart leaves its last zone after the finish
-pub record SpareTables (sheet rears behind visit enter : List ℕ) (finishing : ℕ) : Type 0 where
+pub record SpareTables (sheet : List ℕ) (rears : List (Option ℕ)) (behind visit enter : List ℕ) (finishing : ℕ) : Type 0 where
   pub routed : RoutesOnce (parts.steps sheet) (parts.zone sheet)
   pub places : Places (parts.steps sheet) (parts.zone sheet) visit
   pub leavable : Leavable (parts.steps sheet) (parts.passing sheet) enter

@@ -2,7 +2,7 @@
 use lib.Dec.{lit<}
 use Rattle.std.proofs.Common.{rules}
 use Rattle.sheet_filling.proofs.Ranges.{steps_entries, zone_entries, passing_entries, travel_entries}
-use Rattle.sheet_filling.proofs.Calls.{calls_taken, calls_give}
+use Rattle.words.proofs.Calls.{calls_taken, calls_give}
 use Rattle.sheet_filling.proofs.sheet_of.Goals as goal
 
 pub step_counts-requires : goal.step_counts-requires

@@ -4,7 +4,7 @@
 ghost use Rattle.std.specs.Prelude.{◌≡◌, ◌+◌, ◌-◌, ◌≤◌, ◌<◌, length, MatchOption};
 ghost use Rattle.judge_text.specs.inner.Input.{sheet_length};
 
-use fields::{Field, outside, two_bytes};
+use fields::{outside, two_bytes};
 use judge::{Judged, judge};
 use judge_ring::Ring;
 use sheet::Sheet;
@@ -14,7 +14,7 @@ use std::io;
 pub fn sheet_length(input: &[u8]) -> usize
     ensures { (result ≡ sheet_length input.now) × (result ≤ length input.now) }
 {
-    let Field::Value(n, _) = two_bytes(input, outside(1)) else {
+    let Some((n, _)) = two_bytes(input, outside(1)) else {
         return input.len();
     };
     input.len().min(n as usize)

@@ -99,10 +99,3 @@ impl Table {
         self.travel[x]
     }
 }
-
-// A byte of another table beside the sheet's numbers.
-pub fn wide(byte: u8) -> usize
-    ensures { (result ≡ byte) × (result < 256) }
-{
-    byte as usize
-}

@@ -1,7 +1,7 @@
 // Reads the first 2,048 bytes of standard input and no more, a sheet, a plan and 21 bytes of record and cart, and prints why the cart does not move.
 #![tactic(auto)]
 
-use fields::{Field, four_bytes, one_byte, outside};
+use fields::{four_bytes, one_byte, outside};
 use judge_text::{sheet_length, show_wait};
 use moving_record::Record;
 use moving_why::{Chain, why};
@@ -13,7 +13,7 @@ fn record_in(bytes: &[u8]) -> Record {
     let mut position = [0u8; 16];
     let n = bytes.len().min(16);
     position[..n].copy_from_slice(&bytes[..n]);
-    let Field::Value(made, _) = four_bytes(bytes, outside(16)) else {
+    let Some((made, _)) = four_bytes(bytes, outside(16)) else {
         return Record { position, made: 0 };
     };
     Record { position, made }
@@ -42,7 +42,7 @@ fn show_chain(rt: &impl Print, chain: &Chain) -> io::Result<()> {
 
 // The cart after them; 0 where it is not there.
 fn cart_in(bytes: &[u8]) -> usize {
-    let Field::Value(cart, _) = one_byte(bytes, outside(20)) else {
+    let Some((cart, _)) = one_byte(bytes, outside(20)) else {
         return 0;
     };
     cart as usize

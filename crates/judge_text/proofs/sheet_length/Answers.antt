@@ -14,4 +14,4 @@ returns-in_default c = (rw (← c.outside.ensures, sym c.two_bytes.ensures ∙ c
 
 pub returns : goal.returns
 unfolding sheet_length
-returns c = (rw (← c.outside.ensures, sym c.in-Value.ensures, c.min.ensures, min_pick _ _), search rules)
+returns c = (rw (← c.outside.ensures, sym c.in-Some.ensures, c.min.ensures, min_pick _ _), search rules)

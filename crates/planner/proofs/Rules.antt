@@ -26,6 +26,7 @@ use Rattle.planner.specs.inner.Lists.{lists_in, lists_planned, Listable}
 use Rattle.planner.specs.declared.ListsPlanned.{ListsPlanned}
 use Rattle.planner.specs.declared.Rule.{Rule}
 use Rattle.planner.specs.declared.Rule.TheVariants.{Removal, First, Better}
+use Rattle.sheet_table.specs.declared.Table.{Table}
 
 pub as_ordered : (U : Unplanned) (X : Crossing) → Passable U X → X ≡ ordered U X.before
 as_ordered U X good =
@@ -47,7 +48,7 @@ module _ (sheet : Sheet) (v : Valid sheet) where
       go false = final_passable (unplanned sheet) able
 
 -- so a table that stands for a rule's orders can be listed
-pub rule_listable : (rule : Rule) (n m : ℕ) (table ahead : List ℕ) (v : Valid (sheet_in n m table))
+pub rule_listable : (rule : Rule) (n m : ℕ) (table : Table) (ahead : List ℕ) (v : Valid (sheet_in n m table))
     → StandsFor (unplanned (sheet_in n m table)) (ordered_by (sheet_in n m table) rule) ahead → Listable table ahead n m (ordered_by (sheet_in n m table) rule)
 rule_listable rule n m table ahead v stands = record { valid = v; passable = rule_passable (sheet_in n m table) v rule; stands = stands }
 
@@ -63,6 +64,6 @@ better_lists sheet = go (is_first_earlier sheet)
     go false = refl
 
 -- the visitors by step counts that are the table's
-pub visitors_are : (table counts visitors : List ℕ) → visitors ≡ who_visits counts (parts.zone table) → counts ≡ parts.steps table
+pub visitors_are : (table : Table) (counts visitors : List ℕ) → visitors ≡ who_visits counts (parts.zone table) → counts ≡ parts.steps table
     → visitors ≡ who_visits (parts.steps table) (parts.zone table)
 visitors_are table counts visitors is same = rw same at is

@@ -30,13 +30,14 @@ use Rattle.planner_orders.proofs.Ranks.{leb_not}
 use Rattle.planner_groups.proofs.Visitors.{visiting_says}
 use Rattle.planner_first_come.specs.inner.Earlier.{no_earlier}
 use Rattle.planner_first_come.specs.inner.Putting.{PutTo}
+use Rattle.sheet_table.specs.declared.Table.{Table}
 
 -- a test of the visitors that visit with another
 with_own : (who other test lower : Bool) → other ≡ true → (who ≡ true → test ≡ lower) → (who && test) ≡ ((who && other) && lower)
 with_own false other test lower o t = refl
 with_own true other test lower o t = rw (o, t refl)
 
-module _ (n m : ℕ) (sheet : List ℕ) (v : Valid (sheet_in n m sheet)) {visitors : List ℕ}
+module _ (n m : ℕ) (sheet : Table) (v : Valid (sheet_in n m sheet)) {visitors : List ℕ}
     (visitors_are : visitors ≡ who_visits (parts.steps sheet) (parts.zone sheet))
     {ranks : List ℕ} (ranked : Ranks (parts.arrival sheet) m ranks) where
   abbrev U : Unplanned

@@ -21,7 +21,7 @@ fn put_cart(sheet: &Table, visitors: &[u16; 24], ranks: &[u8; 16], ahead: &mut [
     ensures { PutTo sheet.now visitors.now ranks.now (c + 1) 0 ahead.new }
 {
     let later = at_least(ranks, usize::from(ranks[c]));
-    for j in 0..sheet_table::steps(sheet, c) {
+    for j in 0..sheet.steps(c) {
         let x = 8 * c + j;
         ahead[x] = carts::less(visiting(sheet, visitors, x), later);
     }

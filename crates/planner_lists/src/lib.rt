@@ -25,10 +25,10 @@ fn place_carts(sheet: &Table, visitors: &[u16; 24], ahead: &[u16; 128]) -> [u8; 
 {
     let mut list = [0u8; 384];
     for c in 0..16 {
-        for j in 0..sheet_table::steps(sheet, c) {
+        for j in 0..sheet.steps(c) {
             let x = 8 * c + j;
             let place = carts::count(ahead[x]) as usize;
-            list[16 * sheet_table::zone(sheet, x) + place] = c as u8;
+            list[16 * sheet.zone(x) + place] = c as u8;
         }
     }
     list

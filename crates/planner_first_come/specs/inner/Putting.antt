@@ -4,8 +4,9 @@ use Rattle.sets.specs.inner.Member.{Less}
 use Rattle.sheet_table.specs.inner.Parts.{steps}
 use Rattle.planner_groups.specs.inner.Starting.{visiting_at}
 use Rattle.planner_first_come.specs.inner.Earlier.{no_earlier}
+use Rattle.sheet_table.specs.declared.Table.{Table}
 
-module _ (sheet visitors ranks : List ℕ) where
+module _ (sheet : Table) (visitors ranks : List ℕ) where
   -- step j of cart c is put
   abbrev pub Put : ℕ → ℕ → List ℕ → Type 0
   Put c j ahead = Less (visiting_at sheet visitors (8 * c + j)) (no_earlier ranks c) (get_or ahead (8 * c + j) 0)

@@ -20,7 +20,8 @@ pub rears-requires : goal.rears-requires
 rears-requires c = lanes_most _ _ _ c.requires.0.1
 
 pub solve-requires : goal.solve-requires
-solve-requires c = ?
+solve-requires c = rw c.start_orders.ensures.1
+    (sheet_triable _ _ _ c.requires.0.1 c.ranks.ensures c.visit_places.ensures c.start_orders.ensures.0)
 
 pub returns : goal.returns
-returns c = ?
+returns c = λ n v. sheet_solved n _ _ v c.ranks.ensures c.visit_places.ensures c.start_orders.ensures.0 (rw c.start_orders.ensures.1 at c.solve.ensures)

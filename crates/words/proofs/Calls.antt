@@ -1,16 +1,15 @@
--- What calls of a closure come to, one for each number below n, where a call leaves the closure as it was: an array that is made of them, and a search.
+-- Calls of a closure that changes nothing, at each number below n in turn: what they are asked, as `array::from_fn` asks it, and what a search by them finds.
 use Prim.Native.Nat.{ℕ, ◌<◌}
-use mathlib.Core.Path.{◌≡◌, sym, subst, ◌∙◌}
+use mathlib.Core.Path.{◌≡◌, sym, subst}
 use mathlib.Core.List.{List, [], ◌∷◌}
 use mathlib.Core.Bool.{Bool, true, false}
 use native.Mathlib.Omega.{arith}
 use lib.ListN.{length, get_or}
-use lib.Seq.{ext_get_or}
 use denote.Param.Members.{Mut, Called}
 use Rattle.std.specs.Prelude.{Some, MatchBool}
 use Rattle.std.specs.List.{FoldsTo}
 use Rattle.std.specs.Iterator.{CallableAtEachTurn, Yields, ChecksAny}
-use Rattle.std.specs.Array.{index_steps, IsFromFnResult}
+use Rattle.std.specs.Array.{index_steps}
 use Rattle.std.specs.List.{range_with_len, AllWithin, HoldsAt}
 use Rattle.std.specs.declared.ops.Range.{Range}
 use Rattle.std.proofs.iter.Yields.{nat_range_steps}
@@ -18,7 +17,6 @@ use Rattle.std.proofs.lemmas.Iterator.{cases_from_any, YieldsList-from_range}
 use Rattle.std.proofs.lemmas.List.FromFn.{length-range_with_len, get_or-range_with_len}
 use Rattle.words.specs.Lists.{any_below}
 use Rattle.words.proofs.Any.{any_found, none_any}
-use Rattle.words.proofs.Made.{made_each}
 
 module _ {F : Type 0} (g : Mut F (ℕ × Unit {0}) ℕ) (f : F) (n : ℕ) where
   abbrev Turn : F → ℕ → F → Type 0
@@ -32,10 +30,6 @@ module _ {F : Type 0} (g : Mut F (ℕ × Unit {0}) ℕ) (f : F) (n : ℕ) where
 
     pub calls_taken : CallableAtEachTurn (index_steps n) Turn (λ p i. g.pre p (i, tt)) 0 f
     calls_taken = record { at = λ done t q i u y c e. each_taken done 0 t i u q y c e }
-
-  module _ (l ys : List ℕ) (gives : (i r : ℕ) (q : F) → i < n → Called g f (i, tt) r q → (q ≡ f) × (r ≡ get_or l i 0)) where
-    pub calls_give : length l ≡ n → IsFromFnResult g f ys n → ys ≡ l
-    calls_give e h = ext_get_or 0 ys l (h.long ∙ sym e) λ k b. made_each h (λ i y. y ≡ get_or l i 0) gives k (omega (arith, h.long))
 
 -- whether a closure answers true at some number below n, where it answers by a test
 pub calls_any : {F : Type 0} {g : Mut F (ℕ × Unit {0}) Bool} (f : F) (s u : Range ℕ) (n : ℕ) (r : Bool) (test : ℕ → Bool) → s ≡ record { start = 0; end = n }

@@ -60,8 +60,8 @@ module _ (X : Crossing) (room : List ℕ) where
         rw short,
       )
 
-  pub run_fits : (n : ℕ) → n ≡ length (net_text X) → n ≤ length room → (outcome : Outcome) → outcome ≡ done → (locked : Bool) (told : ℕ) → told ≡ from_bool locked
-      → (position : List ℕ) → FiredOut X (bit locked) position → (after : List ℕ) → after ≡ with_text (net_text X) room
+  pub run_fits : (n : ℕ) → n ≡ length (net_text X) → n ≤ length room → (outcome : Outcome) → outcome ≡ done → (locked : Bool) (told : ℕ)
+      → told ≡ from_bool locked → (position : List ℕ) → FiredOut X (bit locked) position → (after : List ℕ) → after ≡ with_text (net_text X) room
       → Runs (record { outcome = outcome; length = n; locked = told; position = position }) after
   unfolding first_failing room_of
   run_fits n is l outcome e locked told tells position fired after holds =
@@ -106,7 +106,8 @@ module _ (sheet : Sheet) (v : Valid sheet) (orders : Orders) (w : ValidOrders sh
   )
 
 module _ (s p room : List ℕ) where
-  refused_is : ((read_plan s p).outcome.number ≡ 0 → ⊥) → NetRunIs s p (length room) (not_netted (read_plan s p).outcome) × (room ≡ room_after s p room)
+  refused_is : ((read_plan s p).outcome.number ≡ 0 → ⊥)
+      → NetRunIs s p (length room) (not_netted (read_plan s p).outcome) × (room ≡ room_after s p room)
   unfolding room_of
   refused_is n = (
     record {
@@ -139,7 +140,8 @@ module _ (s p room : List ℕ) where
   net_refused outcome some left = rw left at (refused_is s p room) (λ none. omega (arith, some))
 
   pub net_read : (table : List ℕ) (orders : Orders) (counts : Counts) → BothRead s p table orders (Ok counts) → (r : NetRun) (after : List ℕ)
-      → Runs (sheet_crossing (sheet_in counts.zones counts.carts table) orders.ahead) room r after → NetRunIs s p (length room) r × (after ≡ room_after s p room)
+      → Runs (sheet_crossing (sheet_in counts.zones counts.carts table) orders.ahead) room r after
+      → NetRunIs s p (length room) r × (after ≡ room_after s p room)
   net_read table orders counts left r after runs =
       rw left at (read_is s p room) refl r after
       (plan_runs _ (valid_sheet s p table orders counts left) orders (valid_orders s p table orders counts left) room r after runs)

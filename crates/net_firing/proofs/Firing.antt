@@ -167,7 +167,8 @@ module _ (sheet ahead : List ℕ) (sound : Sound (crossing_of sheet ahead) (give
         to t =
             let (_, both) = and_both (ltb y 128) (eqb d c && is_ahead_in (parts.zone sheet) ahead z c y) t in
             let (cart, ahead_of_lem) = and_both (eqb d c) (is_ahead_in (parts.zone sheet) ahead z c y) both in
-            let here = (eqb_says (get_or (parts.zone sheet) y 0) z).0 (and_both (eqb (get_or (parts.zone sheet) y 0) z) (has (get_or ahead y 0) c) ahead_of_lem).0 in
+            let here = (eqb_says (get_or (parts.zone sheet) y 0) z).0
+            (and_both (eqb (get_or (parts.zone sheet) y 0) z) (has (get_or ahead y 0) c) ahead_of_lem).0 in
             let same : zone X c (p - 1) ≡ zone X e j = leaves ∙ sym here ∙ sym there in
             let step = place_is (route X c) (zone X e j) (sound.once c) (p - 1) own same in
             (move_says d (suc (step_in X d (zone X e j))) c p).1

@@ -39,6 +39,7 @@ impl<'a> Net<'a> {
     ghost use Rattle.net_firing.specs.inner.Net.{crossing_in};
     ghost use Rattle.net_firing.specs.inner.Marking.{Takes, is_ahead_in, Gives, LineGives, AllPast, CanFire, Marked, Asked};
 
+    // The net of a sheet and the sets of carts ahead of its steps.
     pub fn of(sheet: &'a Table, ahead: &'a [u16; 128]) -> Net<'a>
         requires { Sound (crossing_of sheet.now ahead.now) (given_of sheet.now) }
         ensures sheet { result.sheet.now ≡ sheet.now }

@@ -212,7 +212,8 @@ module _ (sheet ahead : List ℕ) where
     own_is p n e = ap (λ (k : ℕ). place_cart c p ∷ pick (leb p k) (move_lines c p) []) (count_is ∙ sym e)
 
     -- past the last step nothing waits for another cart
-    pub position_last : (p n : ℕ) → n ≡ get_or (parts.steps sheet) c 0 → 0 < n → n ≤ p → position_lines X c p ≡ place_cart c p ∷ pick (leb p n) (move_lines c p) []
+    pub position_last : (p n : ℕ) → n ≡ get_or (parts.steps sheet) c 0 → 0 < n → n ≤ p
+        → position_lines X c p ≡ place_cart c p ∷ pick (leb p n) (move_lines c p) []
     unfolding position_lines other_lines
     position_last p n e there past =
         ap₂ (λ (a b : List Line). a ++ b) (own_is p n e) (each_none (length X.routes) 0 (other_lines X c p) none)

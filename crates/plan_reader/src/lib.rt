@@ -17,7 +17,7 @@ use sheet_table::Table;
 use std::array;
 use words::{Outcome, done, refused};
 
-// The carts ahead at x, which is 8 * i + j for step j of cart i: those ahead of it in the list of the step's zone, 0 if there is no such step.
+// The carts ahead at x, which is 8 * i + j for step j of cart i: those ahead of it in the list of the step's zone, none where there is no such step.
 fn ahead_at(sheet: &Table, before: &[u16; 384], x: usize) -> u16
     requires { (x < 128) × Routes (steps sheet.now) (zone sheet.now) }
     ensures { result ≡ ahead_at (steps sheet.now) (zone sheet.now) before.now x }

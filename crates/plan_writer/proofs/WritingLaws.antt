@@ -8,25 +8,18 @@ use native.Mathlib.Numerals.{add-one}
 use lib.ListN.{length, take, drop, set, length-append, length-set, length-drop}
 use lib.Seq.{sets, sets-eq, length-sets, length-take-le, drop-drop, get_or-take, get_or-drop}
 use Rattle.words.specs.Lists.{entries, each}
-use Rattle.words.proofs.Entries.{length_each, length_each_most, entries_is}
+use Rattle.words.proofs.Entries.{length_each_most, entries_is}
 use Rattle.words.proofs.Stores.{sets_append}
 use Rattle.words.proofs.Left.{left_suc, left_zero, left_all}
 use Rattle.fields.specs.Bytes.{bytes_of}
-use Rattle.fields.proofs.BytesLaws.{length_bytes_of}
 use Rattle.plan.specs.Written.{count, listed, list_bytes, lists_bytes, written}
 use Rattle.plan.specs.declared.Orders.{Orders}
+use Rattle.plan.proofs.RoundTrip.{length_list_bytes, length_written}
 use Rattle.plan_writer.specs.inner.Writing.{WritableList, Writable}
 
 pub byte_is : (v : ℕ) → v < 256 → bytes_of 1 v ≡ v ∷ []
 unfolding bytes_of
 byte_is v h = rw (mod-eq_of_lt h)
-
-pub list_length : (orders : Orders) (z : ℕ) → length (list_bytes orders z) ≡ 1 + count orders z
-unfolding list_bytes
-list_length orders z =
-    length-append (bytes_of 1 (count orders z)) _
-    ∙ ap₂ (λ (a b : ℕ). a + b) (length_bytes_of 1 (count orders z)) (length_each (count orders z) 0 1 _ (λ k. length_bytes_of 1 (listed orders z k)) ∙
-    omega arith)
 
 -- one turn of a loop over pieces that are left
 pub length_turn : (rule : ℕ → List ℕ) (n z : ℕ) → z < n → length (each (n - z) z rule) ≡ length (rule z) + length (each (n - (z + 1)) (z + 1) rule)
@@ -89,11 +82,6 @@ module _ (orders : Orders) (z : ℕ) (room : List ℕ) (at : ℕ) where
 
 -- ---- a whole plan
 
-pub written_length : (n : ℕ) (orders : Orders) → length (written n orders) ≡ 4 + length (lists_bytes n orders)
-unfolding written
-written_length n orders =
-    simp (length-append, length_bytes_of) (omega arith)
-
 -- a plan has two bytes for its length
 pub written_few : (n : ℕ) (orders : Orders) (room : List ℕ) → Writable n orders room → length (written n orders) < 65536
 unfolding lists_bytes
@@ -101,23 +89,23 @@ written_few n orders room w =
     omega (
       arith,
       w.zones,
-      written_length n orders,
-      length_each_most n 0 17 (list_bytes orders) (λ z l. omega (arith, list_length orders z, (w.list z (omega arith)).few)),
+      length_written orders n,
+      length_each_most n 0 17 (list_bytes orders) (λ z l. omega (arith, length_list_bytes orders z, (w.list z (omega arith)).few)),
     )
 
 -- a room for a plan has its first four bytes, and is as long when they are written
 pub room_head : (n : ℕ) (orders : Orders) (room : List ℕ) → Writable n orders room → length (take 4 room) ≡ 4
-room_head n orders room w = length-take-le 4 room (omega (arith, written_length n orders, w.fits))
+room_head n orders room w = length-take-le 4 room (omega (arith, length_written orders n, w.fits))
 
 pub head_length : (n : ℕ) (orders : Orders) (room head : List ℕ) → Writable n orders room → length head ≡ 4 → length (head ++ drop 4 room) ≡ length room
-head_length n orders room head w e = omega (arith, written_length n orders, w.fits, length-append head (drop 4 room), length-drop 4 room)
+head_length n orders room head w e = omega (arith, length_written orders n, w.fits, length-append head (drop 4 room), length-drop 4 room)
 
 -- the first four bytes stored, and then the lists
 pub store_head : (n : ℕ) (orders : Orders) (room head : List ℕ) (total : ℕ) → n ≤ 24 → total ≡ length (written n orders) → total ≤ length room
     → head ≡ 1 ∷ total / 256 % 256 ∷ total % 256 ∷ n ∷ [] → sets (head ++ drop 4 room) 4 (each n 0 (list_bytes orders)) ≡ sets room 0 (written n orders)
 unfolding written lists_bytes bytes_of
 store_head n orders room head total few e l is =
-    let same : 4 + length (lists_bytes n orders) ≡ total = sym (e ∙ written_length n orders) in
+    let same : 4 + length (lists_bytes n orders) ≡ total = sym (e ∙ length_written orders n) in
     let byte : n % 256 ≡ n = mod-eq_of_lt (omega arith) in
     rw (same, byte) (ap (λ (x : List ℕ). sets x 4 (each n 0 (list_bytes orders)))
     (ap (λ (x : List ℕ). x ++ drop 4 room) is ∙ sym (sets-eq (1 ∷ total / 256 % 256 ∷ total % 256 ∷ n ∷ []) room 0 (omega (arith, same)))))
@@ -134,13 +122,13 @@ module _ {orders : Orders} {n total : ℕ} where
   storing_start begin e =
       record {
         same = refl;
-        ends = rw left_all (sym (e ∙ written_length n orders));
+        ends = rw left_all (sym (e ∙ length_written orders n));
         left = rw left_all;
       }
 
   module _ {begin room : List ℕ} {at z : ℕ} (s : Storing orders n total begin room at z) where
     pub storing_room : z < n → total ≤ length begin → at + 1 + count orders z ≤ length room
-    storing_room h l = omega (arith, s.same, s.ends, length_turn (list_bytes orders) n z h, list_length orders z)
+    storing_room h l = omega (arith, s.same, s.ends, length_turn (list_bytes orders) n z h, length_list_bytes orders z)
 
     pub storing_turn : z < n → (next : ℕ) (after : List ℕ) → next ≡ at + 1 + count orders z → after ≡ sets room at (list_bytes orders z) → Storing
         orders n total begin after next (z + 1)
@@ -149,13 +137,13 @@ module _ {orders : Orders} {n total : ℕ} where
         let place : at + (1 + count orders z) ≡ next = omega arith in
         record {
           same = ap length f ∙ length-sets room at (list_bytes orders z) ∙ s.same;
-          ends = omega (arith, s.ends, length_turn (list_bytes orders) n z h, list_length orders z);
+          ends = omega (arith, s.ends, length_turn (list_bytes orders) n z h, length_list_bytes orders z);
           left =
               s.left
               ∙ ap (λ (m : ℕ). sets room at (each m z (list_bytes orders))) (left_suc n z h)
               ∙ sets_append room at (list_bytes orders z) (each (n - (z + 1)) (z + 1) (list_bytes orders))
               ∙ ap₂ (λ (l : List ℕ) (x : ℕ). sets l x (each (n - (z + 1)) (z + 1) (list_bytes orders))) (sym f)
-              (ap (λ (x : ℕ). at + x) (list_length orders z) ∙ place);
+              (ap (λ (x : ℕ). at + x) (length_list_bytes orders z) ∙ place);
         }
 
     pub storing_end : n ≤ z → room ≡ sets begin 4 (each n 0 (list_bytes orders))

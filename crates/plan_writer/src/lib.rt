@@ -54,7 +54,7 @@ fn not_written(outcome: Outcome) -> PlanWritten
 
 // The plan read, and its orders written into the room.
 fn written_again(s: &[u8], p: &[u8], room: &mut [u8]) -> Result<PlanWritten, Outcome>
-    ensures answer { MatchResult result (λ done. done ≡ write_again s.now p.now (length room.old))
+    ensures answer { MatchResult result (λ wrote. wrote ≡ write_again s.now p.now (length room.old))
         (λ outcome. not_written outcome ≡ write_again s.now p.now (length room.old)) }
     ensures holds { room.new ≡ room_after s.now p.now room.old }
 {

@@ -1,5 +1,5 @@
 -- Finding a list, by what reading the plan answered and by the zone's number.
-use Prim.Native.Nat.{ℕ, zero, suc, ◌+◌, ◌-◌, ◌≤◌, ◌<◌}
+use Prim.Native.Nat.{ℕ, ◌+◌, ◌-◌, ◌≤◌, ◌<◌}
 use mathlib.Core.Path.{◌≡◌, refl, sym, ap, subst, ◌∙◌}
 use mathlib.Core.Bool.{true, false}
 use mathlib.Core.List.{List, [], ◌∷◌}
@@ -24,15 +24,9 @@ use Rattle.plan.specs.declared.Orders.{Orders}
 use Rattle.plan.specs.declared.PlanRead.{PlanRead}
 use Rattle.plan.proofs.Further.{further_refused, further_read}
 use Rattle.plan.proofs.Shows.{ShowsList}
-use Rattle.plan.proofs.Readable.{readable_whole, readable_sheet, readable_valid, readable_shows}
+use Rattle.plan.proofs.Readable.{count_at_sum, readable_whole, readable_sheet, readable_valid, readable_shows}
 use Rattle.plan_zone_list.specs.Finding.{not_found, list_found, find_list, FoundIs}
 use Rattle.plan_zone_list.specs.declared.ListFound.{ListFound}
-
--- a zone's count stands after the counts and lists of the zones before it
-count_at_lem : (p : List ℕ) (n : ℕ) (count : ℕ → ℕ) → ((z : ℕ) → z < n → count_of p z ≡ count z) → count_at p n ≡ 4 + n + sum_below n count
-unfolding count_at sum_below
-count_at_lem p zero count h = refl
-count_at_lem p (suc n) count h = omega (arith, h n (omega arith), count_at_lem p n count (λ z l. h z (omega arith)))
 
 byte_value : (s : List ℕ) (x : ℕ) → get_or s x 0 ≡ value s x 1
 unfolding value
@@ -57,7 +51,7 @@ module _ (s p : List ℕ) (zone : ℕ) where
     shown z h = (readable_shows s p e).list z h
 
     at : zone < sheet.zones → count_at p zone ≡ 4 + zone + sum_below zone (count orders)
-    at l = count_at_lem p zone (count orders) (λ z h. (shown z (omega arith)).count_is.keeps)
+    at l = count_at_sum p zone (count orders) (λ z h. (shown z (omega arith)).count_is.keeps)
 
     -- what finding checks of its own
     abbrev own : List Check

@@ -1,14 +1,12 @@
--- Step by step the visitors of lower rank: whoever has a lower rank comes before, so the sets stand for first come.
-use Prim.Native.Nat.{ℕ, ◌+◌, ◌*◌, ◌≤◌, ◌<◌}
+-- What the sets mean: whoever has a lower rank comes before, so sets of the visitors of lower rank stand for first come.
+use Prim.Native.Nat.{ℕ, ◌<◌}
 use mathlib.Core.Path.{◌≡◌, refl, sym, ap, ap₂, ◌∙◌}
 use mathlib.Core.Bool.{Bool, true, false, not, ◌&&◌, not-not}
 use mathlib.Core.List.{List, []}
-use native.Mathlib.Decide.{ℕ_discrete}
 use native.Mathlib.Omega.{arith}
-use lib.ListN.{get_or, set, replicate, length-set, length-replicate}
-use lib.Seq.{get_or-set_same, get_or-set_other}
+use lib.ListN.{get_or}
 use lib.Dec.{ltb}
-use Rattle.sets.specs.inner.Member.{has, Less}
+use Rattle.sets.specs.inner.Member.{has}
 use Rattle.sets.proofs.Counting.{has_set}
 use Rattle.plan_lists.specs.inner.Sets.{who_visits}
 use Rattle.routes.specs.Crossing.{zone}
@@ -29,42 +27,9 @@ use Rattle.planner_orders.specs.inner.Unplanned.{unplanned_of, unordered, SheetS
 use Rattle.planner_orders.specs.inner.Stands.{StandsFor}
 use Rattle.planner_orders.proofs.Sheets.{sheet_is_sized}
 use Rattle.planner_orders.proofs.Ranks.{leb_not}
-use Rattle.planner_groups.specs.inner.Starting.{visiting_at}
 use Rattle.planner_groups.proofs.Visitors.{visiting_says}
 use Rattle.planner_first_come.specs.inner.Earlier.{no_earlier}
-use Rattle.planner_first_come.specs.inner.Putting.{Put, PutTo}
-
--- ---- step by step
-
-module _ (sheet visitors ranks : List ℕ) (few : (c : ℕ) → get_or (parts.steps sheet) c 0 ≤ 8) where
-  pub put_none : PutTo sheet visitors ranks 0 0 (replicate 128 0)
-  put_none = record { ahead_128 = length-replicate {A = ℕ} 128 0; earlier = λ d i l h. absurd (omega arith); own = λ i l. absurd (omega arith) }
-
-  pub put_next : (c j : ℕ) (ahead : List ℕ) (who r : ℕ) → c < 16 → j < get_or (parts.steps sheet) c 0 → who ≡ visiting_at sheet visitors (8 * c + j)
-      → PutTo sheet visitors ranks c j ahead → Less who (no_earlier ranks c) r → PutTo sheet visitors ranks c (j + 1) (set ahead (8 * c + j) r)
-  put_next c j ahead who r l h is so_far new = record {
-    ahead_128 = length-set ahead (8 * c + j) r ∙ so_far.ahead_128;
-    earlier = λ d i below s. rw (get_or-set_other ahead (8 * c + j) (8 * d + i) r 0 (λ e. omega (arith, few d, few c))) (so_far.earlier d i below s);
-    own = λ i below. go i below (ℕ_discrete i j);
-  }
-    where
-      go : (i : ℕ) → i < j + 1 → Dec (i ≡ j) → Put sheet visitors ranks c i (set ahead (8 * c + j) r)
-      go i below (yes e) = rw (e, get_or-set_same ahead (8 * c + j) r 0 (omega (arith, so_far.ahead_128, few c)), ← is) new
-      go i below (no n) = rw (get_or-set_other ahead (8 * c + j) (8 * c + i) r 0 (λ e. n (omega arith))) (so_far.own i (omega (arith, n)))
-
-  pub put_cart : (c j : ℕ) (ahead : List ℕ) → get_or (parts.steps sheet) c 0 ≤ j → PutTo sheet visitors ranks c j ahead → PutTo sheet visitors ranks
-      (c + 1) 0 ahead
-  put_cart c j ahead all so_far = record {
-    ahead_128 = so_far.ahead_128;
-    earlier = λ d i below s. go d i below s (ℕ_discrete d c);
-    own = λ i l. absurd (omega arith);
-  }
-    where
-      go : (d i : ℕ) → d < c + 1 → i < get_or (parts.steps sheet) d 0 → Dec (d ≡ c) → Put sheet visitors ranks d i ahead
-      go d i below s (yes e) = let mine : i < get_or (parts.steps sheet) c 0 = rw e at s in rw e (so_far.own i (omega arith))
-      go d i below s (no n) = so_far.earlier d i (omega (arith, n)) s
-
--- ---- what the sets mean
+use Rattle.planner_first_come.specs.inner.Putting.{PutTo}
 
 -- a test of the visitors that visit with another
 with_own : (who other test lower : Bool) → other ≡ true → (who ≡ true → test ≡ lower) → (who && test) ≡ ((who && other) && lower)

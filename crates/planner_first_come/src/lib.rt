@@ -13,20 +13,17 @@ ghost use Rattle.planner_first_come.specs.inner.Putting.{PutTo};
 use planner_groups::{at_least, visiting};
 use planner_ranks::ranks;
 use sets::carts;
-use sheet_table::{Table, wide};
+use sheet_table::Table;
 
 // The steps of cart c take the visitors of their zones, but for those whose rank is c's or higher.
 fn put_cart(sheet: &Table, visitors: &[u16; 24], ranks: &[u8; 16], ahead: &mut [u16; 128], c: usize)
     requires { (c < 16) × Routes (steps sheet.now) (zone sheet.now) × PutTo sheet.now visitors.now ranks.now c 0 ahead.old }
     ensures { PutTo sheet.now visitors.now ranks.now (c + 1) 0 ahead.new }
 {
-    let later = at_least(ranks, wide(ranks[c]));
-    let k = sheet_table::steps(sheet, c);
-    let mut j = 0;
-    while j < k {
+    let later = at_least(ranks, usize::from(ranks[c]));
+    for j in 0..sheet_table::steps(sheet, c) {
         let x = 8 * c + j;
         ahead[x] = carts::less(visiting(sheet, visitors, x), later);
-        j += 1;
     }
 }
 
@@ -37,10 +34,8 @@ pub fn first_come_orders(sheet: &Table, visitors: &[u16; 24], m: usize) -> [u16;
 {
     let ranked = ranks(sheet, m);
     let mut ahead = [0u16; 128];
-    let mut c = 0;
-    while c < m {
+    for c in 0..m {
         put_cart(sheet, visitors, &ranked, &mut ahead, c);
-        c += 1;
     }
     ahead
 }

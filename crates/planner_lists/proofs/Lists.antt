@@ -29,7 +29,7 @@ use Rattle.removal.proofs.Lists.{place_in, list_counts, list_place, place_listed
 use Rattle.planner_orders.specs.inner.Unplanned.{unplanned_by, unordered}
 use Rattle.planner_orders.specs.inner.Stands.{StandsFor}
 use Rattle.planner_groups.proofs.Visitors.{visitors_says}
-use Rattle.planner_lists.specs.declared.PassingLists.{PassingLists}
+use Rattle.plan.specs.declared.Orders.{Orders}
 use Rattle.planner_lists.specs.inner.Places.{IsStep, zone_at, place_at, Placeable, EntryOf, PlacedTo, Listed}
 use Rattle.planner_lists.proofs.Members.{ones_upto}
 
@@ -177,6 +177,6 @@ module _ (step_table zone_table lane arrival passing travel follow cross : List 
           go z (no n) = let past : zones ≤ z = omega (arith, n) in rw (le-ltb z zones past) (no_visitors z past)
 
     -- the lists read off are those of the orders
-    pub lists_are : (table : List ℕ) → table ≡ who_visits step_table zone_table → (r : PassingLists) → Listed step_table zone_table ahead table r
+    pub lists_are : (table : List ℕ) → table ≡ who_visits step_table zone_table → (r : Orders) → Listed step_table zone_table ahead table r
         → (r.count ≡ count_table zones (passing_lists U X)) × (r.list ≡ list_table (passing_lists U X))
     lists_are table visitors_are r is = (is.count_is ∙ counts_listed table visitors_are, list_listed r.list is.list_is)

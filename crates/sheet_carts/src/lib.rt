@@ -27,13 +27,7 @@ fn is_early(sheet: &Table, i: usize) -> bool
 
 // After all fields: no byte may follow (13), then the arrivals on each lane of m carts (14).
 #[tactic(auto, using(crate::proofs::ScanLaws::finishing))]
-fn finished(
-    s: &[u8],
-    at: usize,
-    m: usize,
-    sheet: &Table,
-    spot: &[usize; 16],
-) -> Result<(), Outcome>
+fn finished(s: &[u8], at: usize, m: usize, sheet: &Table, spot: &[usize; 16]) -> Result<(), Outcome>
     requires { m ≤ 16 }
     ensures { (n : ℕ) → Leaves sheet_refused (finish s.now (sheet_in n m sheet.now) spot.now at)
         (λ _. sheet_done (sheet_in n m sheet.now)) result }

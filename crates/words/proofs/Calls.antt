@@ -60,6 +60,7 @@ calls_any f s u n r test from ran says =
     here : (k : ℕ) → k < n → get_or all k 0 ≡ k
     here k l = omega (arith, get_or-range_with_len 0 n k 0 l)
 
-    by : (b : Bool) → MatchBool b ((k : ℕ) × (k < length all) × HoldsAt (λ k. test k ≡ true) all k) (AllWithin (λ k. test k ≡ false) all 0 (length all)) → b ≡ any_below test n
+    by : (b : Bool) → MatchBool b ((k : ℕ) × (k < length all) × HoldsAt (λ k. test k ≡ true) all k)
+        (AllWithin (λ k. test k ≡ false) all 0 (length all)) → b ≡ any_below test n
     by true (k, l, h) = let below : k < n = omega (arith, length-range_with_len 0 n) in sym (any_found test n k below (rw (here k below) at (h 0)))
     by false h = sym (none_any test n λ k l. rw (here k l) at (h k 0 (omega arith) (omega (arith, length-range_with_len 0 n))))

@@ -1,4 +1,4 @@
--- A way out rewrites with the fields that are there and the tests that they pass; rattle finds the others so.
+-- A way out rewrites with the fields that are there and the tests that they pass; the check finds the others by the laws of a field.
 use mathlib.Core.Path.{sym, ◌∙◌}
 use borrow.Author.Tests.{eq-eqb, ne_eqb, le-leb}
 use Rattle.fields.specs.inner.Field.{taking}

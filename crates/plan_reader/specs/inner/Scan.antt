@@ -15,7 +15,7 @@ use Rattle.plan.specs.declared.PlanRead.{PlanRead}
 use Rattle.plan_lists.specs.inner.Sets.{Routes, Lanes, who_visits, may_lead}
 use Rattle.plan_lists.specs.inner.Scan.{Lists, no_lists, Scanned, lists_from}
 
--- the carts ahead at x, which is 8 * i + j for step j of cart i: those ahead of it in the list of the step's zone, 0 if there is no such step
+-- the carts ahead at x, which is 8 * i + j for step j of cart i: those ahead of it in the list of the step's zone, none where there is no such step
 abbrev pub ahead_at : List ℕ → List ℕ → List ℕ → ℕ → ℕ
 ahead_at steps zone before x = pick (ltb (x % 8) (get_or steps (x / 8) 0)) (get_or before (16 * get_or zone x 0 + x / 8) 0) 0
 

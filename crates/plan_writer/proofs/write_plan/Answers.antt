@@ -1,7 +1,8 @@
 use mathlib.Core.Path.{sym, ap, ◌∙◌}
 use native.Mathlib.Omega.{arith}
 use lib.ListN.{length}
-use Rattle.plan_writer.proofs.WritingLaws.{written_length, written_few, room_head, head_length, store_head}
+use Rattle.plan.proofs.RoundTrip.{length_written}
+use Rattle.plan_writer.proofs.WritingLaws.{written_few, room_head, head_length, store_head}
 use Rattle.plan_writer.proofs.WritingLaws.{storing_start, storing_room, storing_turn, storing_end}
 use Rattle.plan_writer.proofs.write_plan.Goals as goal
 
@@ -9,7 +10,7 @@ pub overflow_cast-total : goal.overflow_cast-total
 overflow_cast-total c = omega (arith, c.requires.1, written_few _ _ _ c.requires.0)
 
 pub slice_bounds-copy_from_slice-end : goal.slice_bounds-copy_from_slice-end
-slice_bounds-copy_from_slice-end c = omega (arith, written_length c.args.n c.args.orders.now, c.requires.0.fits)
+slice_bounds-copy_from_slice-end c = omega (arith, length_written c.args.orders.now c.args.n, c.requires.0.fits)
 
 pub slice_bounds-copy_from_slice-end-2 : goal.slice_bounds-copy_from_slice-end-2
 slice_bounds-copy_from_slice-end-2 c = sym (room_head _ _ _ c.requires.0)

@@ -3,7 +3,7 @@ use Rattle.std.specs.Prelude.{ℕ, ◌+◌, ◌*◌, ◌<◌, ◌≡◌, ◌⊎�
 use Rattle.std.specs.Int.Count.{ones}
 use Rattle.words.specs.Lists.{entries}
 use Rattle.plan_lists.specs.inner.Sets.{Routes, who_visits}
-use Rattle.planner_lists.specs.declared.PassingLists.{PassingLists}
+use Rattle.plan.specs.declared.Orders.{Orders}
 
 -- step j of cart c: its zone, and its cart's place there
 abbrev pub IsStep : List ℕ → ℕ → ℕ → Type 0
@@ -34,7 +34,8 @@ module _ (steps zone ahead : List ℕ) where
     pub placed : (c j y : ℕ) → EntryOf c j y → 8 * c + j < x → get_or list y 0 ≡ c
     pub others : (y : ℕ) → (get_or list y 0 ≡ 0) ⊎ ((c : ℕ) × (j : ℕ) × EntryOf c j y × (8 * c + j < x))
 
-  -- each zone's count is the number of its visitors, and every cart is at its place
-  pub record Listed (visitors : List ℕ) (r : PassingLists) : Type 0 where
+  -- each zone's count is the number of its visitors, every cart is at its place, and the sets are those that the lists were read off
+  pub record Listed (visitors : List ℕ) (r : Orders) : Type 0 where
     pub count_is : r.count ≡ entries 24 0 (λ z. ones (get_or visitors z 0))
     pub list_is : PlacedTo 128 r.list
+    pub ahead_is : r.ahead ≡ ahead

@@ -1,4 +1,4 @@
--- A way out rewrites with the fields that are there and the tests that they pass; rattle finds the others so.
+-- A way out rewrites with the fields that are there and the tests that they pass; the check finds the others by the laws of a field.
 use mathlib.Core.Path.{sym, ◌∙◌}
 use borrow.Author.Tests.{lt-ltb, le-ltb, le-leb}
 use Rattle.fields.specs.inner.Field.{taking}

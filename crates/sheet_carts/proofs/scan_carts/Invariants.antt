@@ -8,8 +8,10 @@ use Rattle.sheet_carts.proofs.scan_carts.Given as goal
 
 abbrev pub invariant-loop-j : goal.invariant-loop-j
 invariant-loop-j l =
-    steps_from l.s l.i l.k l.k 0 (has l.initial.seen) (sheet_in l.n l.m l.initial.sheet) l.initial.at (λ sh at'. carts_from l.s (l.m - (l.i + 1)) (l.i + 1) sh l.spot at')
-    ≡ steps_from l.s l.i l.k (l.k - l.j) l.j (has l.seen) (sheet_in l.n l.m l.sheet) l.at (λ sh at'. carts_from l.s (l.m - (l.i + 1)) (l.i + 1) sh l.spot at')
+    steps_from l.s l.i l.k l.k 0 (has l.initial.seen) (sheet_in l.n l.m l.initial.sheet) l.initial.at
+    (λ sh at'. carts_from l.s (l.m - (l.i + 1)) (l.i + 1) sh l.spot at')
+    ≡ steps_from l.s l.i l.k (l.k - l.j) l.j (has l.seen) (sheet_in l.n l.m l.sheet) l.at
+    (λ sh at'. carts_from l.s (l.m - (l.i + 1)) (l.i + 1) sh l.spot at')
 
 abbrev pub invariant-loop-i : goal.invariant-loop-i
 invariant-loop-i l =

@@ -1,4 +1,4 @@
--- A turn of the loop rewrites with the fields that are there and the tests that they pass; rattle finds the ways out so.
+-- A turn of the loop rewrites with the fields that are there and the tests that they pass; the check finds the ways out by the laws of a field.
 use mathlib.Core.Path.{sym, ◌∙◌}
 use borrow.Author.Tests.{le-leb}
 use Rattle.fields.specs.inner.Field.{taking}

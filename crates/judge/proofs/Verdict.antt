@@ -68,7 +68,7 @@ module _ (sheet : Sheet) (orders : Orders) where
       (runs.lowest c e).1 ∙ ap (λ (T : System). lowest_stuck T run.at) (plan_system_lem sheet v orders w) ∙ ap (lowest_stuck S) settled_end,
     )
 
-    verdict_is : (stuck ≡ None) ↔ (is_out sheet orders ≡ true)
+    pub verdict_is : (stuck ≡ None) ↔ (is_out sheet orders ≡ true)
     verdict_is = (
       λ e. sym (tables_out v w) ∙ (end_says X).1 (sym runs.settled.is_end ∙ runs.out.0 e),
       λ e. runs.out.1 (runs.settled.is_end ∙ (end_says X).0 (tables_out v w ∙ e)),

@@ -5,7 +5,7 @@ ghost use Rattle.std.specs.Prelude.{◌≡◌, length};
 ghost use Rattle.judge.specs.Judging.{not_judged, judge, words_after};
 ghost use Rattle.judge.specs.inner.Held.{HeldIn, JudgedIn};
 
-use judge_entering::lanes;
+use judge_entering::Ground;
 use judge_finish::finish_of;
 use judge_one_move::Run;
 use judge_ring::{Ring, no_ring, ring_of};
@@ -43,8 +43,8 @@ fn judge_orders(sheet: &Table, orders: &Orders, words: &mut [u32]) -> Judged
 {
     let mut run = Run::start();
     if let Some(stuck) = verdict_of(sheet, &orders.ahead, &mut run) {
-        let lanes = lanes(sheet);
-        let ring = ring_of(sheet, &lanes, orders, &run.at, &run.left, stuck);
+        let ground = Ground::of(sheet, &orders.ahead);
+        let ring = ring_of(&ground, orders, &run.at, &run.left, stuck);
         return not_judged(refused(22, 0), ring);
     }
     if words.len() < 128 {

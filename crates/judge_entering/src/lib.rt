@@ -47,6 +47,29 @@ pub fn lanes(sheet: &Table) -> Lanes
     lanes
 }
 
+// A sheet with the lanes worked out for it, and orders: the set of carts ahead of each step.
+#[derive(Clone, Copy)]
+pub struct Ground<'a> {
+    pub sheet: &'a Table,
+    pub ahead: &'a [u16; 128],
+    pub lanes: Lanes,
+    ghost lanes_are: { lanes ≡ lanes_of sheet.now },
+}
+
+impl<'a> Ground<'a> {
+    // The ground of a sheet and the sets of carts ahead of its steps.
+    pub fn of(sheet: &'a Table, ahead: &'a [u16; 128]) -> Ground<'a>
+        requires { AtMost 15 (lane sheet.now) }
+        ensures { (result.sheet.now ≡ sheet.now) × (result.ahead.now ≡ ahead.now) }
+    {
+        Ground {
+            sheet,
+            ahead,
+            lanes: lanes(sheet),
+        }
+    }
+}
+
 // The set of the carts on cart c's lane.
 #[tactic(auto, using(crate::proofs::LaneLaws::lane_16))]
 pub fn mates(sheet: &Table, lanes: &Lanes, c: usize) -> u16

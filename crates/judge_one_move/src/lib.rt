@@ -8,12 +8,11 @@ ghost use Rattle.moves.specs.Moves.{moved, Permitted};
 ghost use Rattle.routes.specs.Moves.{system};
 ghost use Rattle.sheet_table.specs.inner.Parts.{steps, zone, passing};
 ghost use Rattle.crossing.specs.inner.Tables.{crossing_of};
-ghost use Rattle.judge_entering.specs.inner.Lanes.{lanes_of};
 ghost use Rattle.judge_entering.specs.inner.Times.{Enterable};
 ghost use Rattle.judge_one_move.specs.inner.Standing.{Standing};
 ghost use Rattle.judge_one_move.specs.inner.Running.{no_moves, Joins, ZoneLeft, GoneIn, CanGoOn, GoneOn, CanGoOut};
 
-use judge_entering::{Lanes, enter_zone, front_enters, lane_holds};
+use judge_entering::{Ground, enter_zone, front_enters, lane_holds};
 use sets::carts;
 use sheet_table::Table;
 
@@ -35,40 +34,26 @@ pub fn may_enter(sheet: &Table, ahead: &[u16; 128], left: &[u16; 24], x: usize) 
 }
 
 // Whether cart c may enter the zone that it wants: its lane does not hold it, and all carts ahead have left the zone.
-pub fn may_go_in(
-    sheet: &Table,
-    lanes: &Lanes,
-    ahead: &[u16; 128],
-    at: &[u8; 16],
-    left: &[u16; 24],
-    c: usize,
-) -> bool
-    requires { Standing (crossing_of sheet.now ahead.now) at.now left.now × (c < 16) × (lanes.now ≡ lanes_of sheet.now)
-        × (pos at.now c < get_or (steps sheet.now) c 0) }
-    ensures { (result ≡ true) ↔ Permitted (system (crossing_of sheet.now ahead.now)) at.now c }
+pub fn may_go_in(ground: &Ground, at: &[u8; 16], left: &[u16; 24], c: usize) -> bool
+    requires { Standing (crossing_of ground.now.sheet.now ground.now.ahead.now) at.now left.now × (c < 16)
+        × (pos at.now c < get_or (steps ground.now.sheet.now) c 0) }
+    ensures { (result ≡ true) ↔ Permitted (system (crossing_of ground.now.sheet.now ground.now.ahead.now)) at.now c }
 {
-    if lane_holds(lanes, at, c) {
+    if lane_holds(&ground.lanes, at, c) {
         return false;
     }
-    may_enter(sheet, ahead, left, 8 * c + usize::from(at[c]))
+    may_enter(ground.sheet, ground.ahead, left, 8 * c + usize::from(at[c]))
 }
 
 // Whether the next move of cart c is permitted: into the zone that it wants, or out.
-pub fn may_move(
-    sheet: &Table,
-    lanes: &Lanes,
-    ahead: &[u16; 128],
-    at: &[u8; 16],
-    left: &[u16; 24],
-    c: usize,
-) -> bool
-    requires { Standing (crossing_of sheet.now ahead.now) at.now left.now × (c < 16) × (lanes.now ≡ lanes_of sheet.now) }
-    ensures { (result ≡ true) ↔ Permitted (system (crossing_of sheet.now ahead.now)) at.now c }
+pub fn may_move(ground: &Ground, at: &[u8; 16], left: &[u16; 24], c: usize) -> bool
+    requires { Standing (crossing_of ground.now.sheet.now ground.now.ahead.now) at.now left.now × (c < 16) }
+    ensures { (result ≡ true) ↔ Permitted (system (crossing_of ground.now.sheet.now ground.now.ahead.now)) at.now c }
 {
-    let k = sheet.steps(c);
+    let k = ground.sheet.steps(c);
     let p = usize::from(at[c]);
     if p < k {
-        return may_go_in(sheet, lanes, ahead, at, left, c);
+        return may_go_in(ground, at, left, c);
     }
     if k == 0 {
         return false;

@@ -9,7 +9,7 @@ ghost use Rattle.sheet_table.specs.inner.Parts.{steps, zone};
 ghost use Rattle.judge_ring.specs.inner.Tables.{NotOutIn, StuckIn, wanted_in, Wanting, point_of, first_not_left};
 ghost use Rattle.judge_ring.specs.inner.Tables.{Listable, Pointable, ByTable, by_table};
 
-use judge_entering::{Lanes, front, lane_holds};
+use judge_entering::{Ground, front, lane_holds};
 use plan::Orders;
 use sets::carts;
 use sheet_table::Table;
@@ -98,36 +98,29 @@ pub fn wanted_zones(sheet: &Table, at: &[u8; 16]) -> [u8; 16]
 
 // The cart that cart c points to: the one in front where the lane holds it, else the first in the wanted zone's list which has not left it.
 pub fn points_to(
-    sheet: &Table,
-    lanes: &Lanes,
+    ground: &Ground,
     orders: &Orders,
     at: &[u8; 16],
     left: &[u16; 24],
     c: usize,
 ) -> usize
-    requires { Pointable sheet.now lanes.now orders.now.count orders.now.list at.now × (c < 16) }
-    ensures { (result ≡ point_of sheet.now orders.now.count orders.now.list at.now left.now c)
+    requires { Pointable ground.now.sheet.now orders.now.count orders.now.list at.now × (c < 16) }
+    ensures { (result ≡ point_of ground.now.sheet.now orders.now.count orders.now.list at.now left.now c)
         × (result < 16) }
 {
-    if lane_holds(lanes, at, c) {
-        return front(lanes, c).unwrap();
+    if lane_holds(&ground.lanes, at, c) {
+        return front(&ground.lanes, c).unwrap();
     }
-    first_not_left(orders, left, wanted_zone(sheet, at, c))
+    first_not_left(orders, left, wanted_zone(ground.sheet, at, c))
 }
 
 // The cart that each cart points to.
-fn pointing(
-    sheet: &Table,
-    lanes: &Lanes,
-    orders: &Orders,
-    at: &[u8; 16],
-    left: &[u16; 24],
-) -> [u8; 16]
-    requires { Pointable sheet.now lanes.now orders.now.count orders.now.list at.now }
-    ensures { (result ≡ entries 16 0 (point_of sheet.now orders.now.count orders.now.list at.now left.now))
+fn pointing(ground: &Ground, orders: &Orders, at: &[u8; 16], left: &[u16; 24]) -> [u8; 16]
+    requires { Pointable ground.now.sheet.now orders.now.count orders.now.list at.now }
+    ensures { (result ≡ entries 16 0 (point_of ground.now.sheet.now orders.now.count orders.now.list at.now left.now))
         × ByTable result }
 {
-    array::from_fn(|c| points_to(sheet, lanes, orders, at, left, c) as u8)
+    array::from_fn(|c| points_to(ground, orders, at, left, c) as u8)
 }
 
 // The ring that pointing comes to from cart c: its lowest cart, then each that follows until the lowest comes again.
@@ -157,20 +150,13 @@ fn ring_by(to: &[u8; 16], wanted: &[u8; 16], c: usize) -> Ring
 }
 
 // The ring that pointing comes to from cart c, where the carts stand and have left zones as the tables say.
-pub fn ring_of(
-    sheet: &Table,
-    lanes: &Lanes,
-    orders: &Orders,
-    at: &[u8; 16],
-    left: &[u16; 24],
-    c: usize,
-) -> Ring
-    requires { Pointable sheet.now lanes.now orders.now.count orders.now.list at.now × (c < 16) }
-    ensures { result ≡ ring_by (point_of sheet.now orders.now.count orders.now.list at.now left.now)
-        (wanted_in (steps sheet.now) (zone sheet.now) at.now) 16 c }
+pub fn ring_of(ground: &Ground, orders: &Orders, at: &[u8; 16], left: &[u16; 24], c: usize) -> Ring
+    requires { Pointable ground.now.sheet.now orders.now.count orders.now.list at.now × (c < 16) }
+    ensures { result ≡ ring_by (point_of ground.now.sheet.now orders.now.count orders.now.list at.now left.now)
+        (wanted_in (steps ground.now.sheet.now) (zone ground.now.sheet.now) at.now) 16 c }
 {
-    let wanted = wanted_zones(sheet, at);
-    let to = pointing(sheet, lanes, orders, at, left);
+    let wanted = wanted_zones(ground.sheet, at);
+    let to = pointing(ground, orders, at, left);
     ring_by(&to, &wanted, c)
 }
 

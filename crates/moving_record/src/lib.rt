@@ -6,11 +6,11 @@ ghost use Rattle.routes.specs.Moves.{moves_of};
 ghost use Rattle.sheet_table.specs.inner.Parts.{lane, steps, zone};
 ghost use Rattle.crossing.specs.inner.Tables.{crossing_of};
 ghost use Rattle.plan_lists.specs.inner.Sets.{Routes};
-ghost use Rattle.judge_entering.specs.inner.Lanes.{lanes_of, front_at};
+ghost use Rattle.judge_entering.specs.inner.Lanes.{front_at};
 ghost use Rattle.moving_record.specs.inner.Tables.{NonePastOut, zones_left, InZones, InTurn, AllInTurn, FrontsKnown, AllInLine};
 ghost use Rattle.moving_record.specs.inner.Tables.{Orderly, TestedAs};
 
-use judge_entering::{Lanes, front_gone};
+use judge_entering::{Ground, Lanes, front_gone};
 use judge_one_move::may_enter;
 use plan::sum_of;
 use plan_lists::who_visits;
@@ -83,27 +83,22 @@ fn all_in_line(lanes: &Lanes, at: &[u8; 16]) -> bool
 
 // Whether a run reaches the record: no cart is past out, the count is the sum of the positions, every step entered had all carts ahead gone,
 // and every cart that has started had the cart in front of it gone. Then for each zone the carts that have left it; None where no run does.
-pub fn test_record(
-    sheet: &Table,
-    lanes: &Lanes,
-    ahead: &[u16; 128],
-    lent: Record,
-) -> Option<[u16; 24]>
-    requires { Orderly (steps sheet.now) (zone sheet.now) (lane sheet.now) ahead.now × (lanes.now ≡ lanes_of sheet.now) }
-    ensures { TestedAs (crossing_of sheet.now ahead.now) lent result }
+pub fn test_record(ground: &Ground, lent: Record) -> Option<[u16; 24]>
+    requires { Orderly (steps ground.now.sheet.now) (zone ground.now.sheet.now) (lane ground.now.sheet.now) ground.now.ahead.now }
+    ensures { TestedAs (crossing_of ground.now.sheet.now ground.now.ahead.now) lent result }
 {
     let at = lent.position;
-    if !none_past_out(sheet, &at) {
+    if !none_past_out(ground.sheet, &at) {
         return None;
     }
     if lent.made as usize != sum_of(&at, 16) {
         return None;
     }
-    let left = who_visits(sheet, &zones_left(&at));
-    if !all_in_turn(sheet, ahead, &at, &left) {
+    let left = who_visits(ground.sheet, &zones_left(&at));
+    if !all_in_turn(ground.sheet, ground.ahead, &at, &left) {
         return None;
     }
-    if !all_in_line(lanes, &at) {
+    if !all_in_line(&ground.lanes, &at) {
         return None;
     }
     Some(left)

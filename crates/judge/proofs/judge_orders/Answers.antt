@@ -14,14 +14,13 @@ use Rattle.judge.proofs.judge_orders.Goals as goal
 pub verdict_of-requires : goal.verdict_of-requires
 verdict_of-requires c = plan_sound (sheet_in _ _ c.args.sheet.now) c.requires.valid c.args.orders.now c.requires.valid_orders
 
-pub lanes-lanes-requires : goal.lanes-lanes-requires
+pub of-ground-requires : goal.of-ground-requires
 unfolding given_by
-lanes-lanes-requires c = (plan_sound (sheet_in _ _ c.args.sheet.now) c.requires.valid c.args.orders.now c.requires.valid_orders).ranged.lane_most
+of-ground-requires c = (plan_sound (sheet_in _ _ c.args.sheet.now) c.requires.valid c.args.orders.now c.requires.valid_orders).ranged.lane_most
 
 pub ring_of-ring-requires : goal.ring_of-ring-requires
 ring_of-ring-requires c = (
-  record {
-    lanes_are = c.lanes-lanes.ensures;
+  rw c.of-ground.ensures.0 record {
     wanting = sheet_wanting (sheet_in _ _ c.args.sheet.now) c.requires.valid _;
     listable = orders_listable (sheet_in _ _ c.args.sheet.now) c.requires.valid c.verdict_of.new.run.at c.args.orders.now c.requires.valid_orders;
   },
@@ -30,7 +29,7 @@ ring_of-ring-requires c = (
 
 pub returns-in-Some : goal.returns-in-Some
 returns-in-Some c = λ n m v w.
-    let h = locked_answer (sheet_in n m c.args.sheet.now) c.args.orders.now v w _ _ c.verdict_of.ensures _ _ c.in-Some.is _ c.ring_of-ring.ensures in
+    let h = locked_answer (sheet_in n m c.args.sheet.now) c.args.orders.now v w _ _ c.verdict_of.ensures _ _ c.in-Some.is _ (rw c.of-ground.ensures.0 at c.ring_of-ring.ensures) in
     (c.not_judged.ensures ∙ rw c.refused.ensures h.0, h.1)
 
 pub returns-then-words-lt128 : goal.returns-then-words-lt128

@@ -3,4 +3,4 @@ use Rattle.judge_all_out.proofs.OneCart.{GoingOn}
 use Rattle.judge_all_out.proofs.go_on.Given as goal
 
 abbrev pub invariant-loop-p : goal.invariant-loop-p
-invariant-loop-p l = GoingOn l.sheet l.ahead l.at l.left l.c l.p
+invariant-loop-p l = GoingOn l.ground.sheet.now l.ground.ahead.now l.at l.left l.c l.p

@@ -12,7 +12,6 @@ pub may_go_in-requires : goal.may_go_in-requires
 may_go_in-requires c = (
   c.loop-turn.invariant.have_moved.standing,
   c.lowest-c.ensures.0,
-  c.requires.2,
   turning_wants _ _ _ _ _ _ _ _ c.loop-turn.invariant _ _ c.lowest-c.ensures.1
       c.rest-turn.ensures _ (steps_is _ _ _ _ _ c.lowest-c.ensures.0),
 )

@@ -6,7 +6,6 @@ pub may_go_in-requires : goal.may_go_in-requires
 may_go_in-requires c = (
   c.requires.0,
   c.requires.1,
-  c.requires.2,
   rw (c.from-p.ensures, c.steps-k.ensures) at c.if-p-k.true,
 )
 

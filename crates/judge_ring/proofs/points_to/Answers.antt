@@ -13,17 +13,17 @@ in_front zero some = absurd (omega arith)
 in_front (suc d) some = ap Some {x = d} (omega arith)
 
 pub lane_holds-requires : goal.lane_holds-requires
-lane_holds-requires c = (c.requires.1, front_16 _ _ c.requires.0.lanes_are _ c.requires.1)
+lane_holds-requires c = (c.requires.1, front_16 _ _ c.args.ground.now.lanes_are _ c.requires.1)
 
 pub unwrap-requires : goal.unwrap-requires
-unwrap-requires c = let held = sym (c.lane_holds.ensures _ [] c.requires.0.lanes_are) ∙ c.if-lane_holds.true in
-    rw (c.front.ensures, in_front _ (held_front _ _ c.requires.0.lanes_are _ c.requires.1 [] c.args.at.now held)) (search rules)
+unwrap-requires c = let held = sym (c.lane_holds.ensures _ [] c.args.ground.now.lanes_are) ∙ c.if-lane_holds.true in
+    rw (c.front.ensures, in_front _ (held_front _ _ c.args.ground.now.lanes_are _ c.requires.1 [] c.args.at.now held)) (search rules)
 
 pub returns-then-lane_holds : goal.returns-then-lane_holds
 returns-then-lane_holds c =
-    let held = sym (c.lane_holds.ensures _ [] c.requires.0.lanes_are) ∙ c.if-lane_holds.true in
-    let front = in_front _ (held_front _ _ c.requires.0.lanes_are _ c.requires.1 [] c.args.at.now held) in
-    let same : c.unwrap.result ≡ front_at c.args.lanes.now c.args.c - 1 = cc in (
-      rw (held, ← front_told _ _ c.requires.0.lanes_are _ c.requires.1) same,
-      omega (arith, same, front_16 _ _ c.requires.0.lanes_are _ c.requires.1),
+    let held = sym (c.lane_holds.ensures _ [] c.args.ground.now.lanes_are) ∙ c.if-lane_holds.true in
+    let front = in_front _ (held_front _ _ c.args.ground.now.lanes_are _ c.requires.1 [] c.args.at.now held) in
+    let same : c.unwrap.result ≡ front_at c.args.ground.now.lanes c.args.c - 1 = cc in (
+      rw (held, ← front_told _ _ c.args.ground.now.lanes_are _ c.requires.1) same,
+      omega (arith, same, front_16 _ _ c.args.ground.now.lanes_are _ c.requires.1),
     )

@@ -15,7 +15,7 @@ pub ring_by-requires : goal.ring_by-requires
 ring_by-requires c = (c.requires.1, c.pointing-to.ensures.1)
 
 pub returns : goal.returns
-returns c = c.ring_by.ensures ∙ ring_tables (point_of c.args.sheet.now c.args.orders.now.count c.args.orders.now.list c.args.at.now
+returns c = c.ring_by.ensures ∙ ring_tables (point_of c.args.ground.now.sheet.now c.args.orders.now.count c.args.orders.now.list c.args.at.now
     c.args.left.now)
-    (wanted_in (parts.steps c.args.sheet.now) (parts.zone c.args.sheet.now) c.args.at.now) _ _ _
+    (wanted_in (parts.steps c.args.ground.now.sheet.now) (parts.zone c.args.ground.now.sheet.now) c.args.at.now) _ _ _
     c.pointing-to.ensures.0 c.wanted_zones-wanted.ensures c.pointing-to.ensures.1 c.requires.1

@@ -7,7 +7,6 @@ use Rattle.routes.specs.Lanes.{lane_holds}
 use Rattle.routes.specs.Moves.{moves_of}
 use Rattle.sheet_table.specs.inner.Parts as parts
 use Rattle.crossing.specs.inner.Tables.{fronts_of, crossing_by}
-use Rattle.judge_entering.specs.inner.Lanes.{lanes_of}
 use Rattle.sheet_table.specs.declared.Table.{Table}
 
 -- the zone that cart c wants at its position; 0 where it wants none
@@ -44,8 +43,7 @@ abbrev pub point_of : Table → List ℕ → List ℕ → List ℕ → List ℕ 
 point_of sheet = point_in (parts.steps sheet) (parts.zone sheet) (fronts_of sheet)
 
 -- what pointing asks of the tables
-pub record Pointable (sheet : Table) (lanes count list at : List ℕ) : Type 0 where
-  pub lanes_are : lanes ≡ lanes_of sheet
+pub record Pointable (sheet : Table) (count list at : List ℕ) : Type 0 where
   pub wanting : Wanting (parts.steps sheet) (parts.zone sheet) at
   pub listable : AllListable count list
 

@@ -10,10 +10,10 @@ use borrow.Author.Rules.{rules}
 use Rattle.moving_record.proofs.test_record.Goals as goal
 
 pub none_past_out-requires : goal.none_past_out-requires
-none_past_out-requires c = tables_routes _ _ _ _ c.requires.0
+none_past_out-requires c = tables_routes _ _ _ _ c.requires
 
 pub returns-then-not-none_past_out : goal.returns-then-not-none_past_out
-returns-then-not-none_past_out c = past_out _ _ c.requires.0 _ (search rules)
+returns-then-not-none_past_out c = past_out _ _ c.requires _ (search rules)
     (λ all. false≢true (sym c.if-not-none_past_out.true ∙ c.none_past_out.ensures.1 all))
 
 pub sum_of-requires : goal.sum_of-requires
@@ -21,29 +21,29 @@ sum_of-requires c = let sized : length c.args.lent.position ≡ 16 = search rule
     (omega arith, omega (arith, sized))
 
 pub returns-then-lent-sum_of : goal.returns-then-lent-sum_of
-returns-then-lent-sum_of c = miscounted _ _ c.requires.0 _ (search rules) _ c.sum_of.ensures.0 c.if-lent-sum_of.true
+returns-then-lent-sum_of c = miscounted _ _ c.requires _ (search rules) _ c.sum_of.ensures.0 c.if-lent-sum_of.true
 
 pub who_visits-left-requires : goal.who_visits-left-requires
-who_visits-left-requires c = gone_routes _ _ _ _ c.requires.0 c.args.lent.position (c.none_past_out.ensures.0
+who_visits-left-requires c = gone_routes _ _ _ _ c.requires c.args.lent.position (c.none_past_out.ensures.0
     c.if-not-none_past_out.false) _ c.zones_left.ensures
 
 pub all_in_turn-requires : goal.all_in_turn-requires
-all_in_turn-requires c = tables_routes _ _ _ _ c.requires.0
+all_in_turn-requires c = tables_routes _ _ _ _ c.requires
 
 pub returns-then-not-all_in_turn : goal.returns-then-not-all_in_turn
-returns-then-not-all_in_turn c = out_of_turn _ _ c.requires.0 _ (search rules) (c.none_past_out.ensures.0 c.if-not-none_past_out.false) _
+returns-then-not-all_in_turn c = out_of_turn _ _ c.requires _ (search rules) (c.none_past_out.ensures.0 c.if-not-none_past_out.false) _
     c.zones_left.ensures _ c.who_visits-left.ensures
     (λ all. false≢true (sym c.if-not-all_in_turn.true ∙ c.all_in_turn.ensures.1 all))
 
 pub all_in_line-requires : goal.all_in_line-requires
-all_in_line-requires c = λ _ l. front_16 _ _ c.requires.1 _ l
+all_in_line-requires c = λ _ l. front_16 _ _ c.args.ground.now.lanes_are _ l
 
 pub returns-then-not-all_in_line : goal.returns-then-not-all_in_line
-returns-then-not-all_in_line c = out_of_line _ _ c.requires.0 _ (search rules) _ c.requires.1
+returns-then-not-all_in_line c = out_of_line _ _ c.requires _ (search rules) _ c.args.ground.now.lanes_are
     (λ all. false≢true (sym c.if-not-all_in_line.true ∙ c.all_in_line.ensures.1 all))
 
 pub returns : goal.returns
-returns c = reached_as _ _ c.requires.0 _ (search rules) (c.none_past_out.ensures.0 c.if-not-none_past_out.false) _
+returns c = reached_as _ _ c.requires _ (search rules) (c.none_past_out.ensures.0 c.if-not-none_past_out.false) _
     c.zones_left.ensures _ c.who_visits-left.ensures _ c.sum_of.ensures.0 c.if-lent-sum_of.false
-    (c.all_in_turn.ensures.0 c.if-not-all_in_turn.false) _ c.requires.1
+    (c.all_in_turn.ensures.0 c.if-not-all_in_turn.false) _ c.args.ground.now.lanes_are
     (c.all_in_line.ensures.0 c.if-not-all_in_line.false)

@@ -4,13 +4,12 @@
 ghost use Rattle.std.specs.Prelude.{◌≡◌};
 ghost use Rattle.sheet_table.specs.inner.Parts.{zone};
 ghost use Rattle.crossing.specs.inner.Tables.{crossing_of};
-ghost use Rattle.judge_entering.specs.inner.Lanes.{lanes_of};
 ghost use Rattle.moving_asking.specs.inner.Tables.{WantsZone, not_gone, held_by, no_move};
 ghost use Rattle.moving_asking.specs.Asking.{ask};
 ghost use Rattle.moving_asking.specs.inner.Held.{Askable, TestedIn, AskedIn};
 
 use judge_all_out::all_out;
-use judge_entering::{Lanes, lane_holds, lanes};
+use judge_entering::{Ground, lane_holds};
 use judge_one_move::may_move;
 use moving_record::{Record, test_record};
 use plan::no_orders;
@@ -43,75 +42,57 @@ fn no_move(outcome: Outcome, ahead: u32) -> Asked
 }
 
 // How many carts ahead of cart c have not left the zone that it wants: the ones of a set.
-fn not_gone(sheet: &Table, ahead: &[u16; 128], at: &[u8; 16], left: &[u16; 24], c: usize) -> u32
-    requires { WantsZone (zone sheet.now) at.now c }
-    ensures { result ≡ not_gone (zone sheet.now) ahead.now at.now left.now c }
+fn not_gone(ground: &Ground, at: &[u8; 16], left: &[u16; 24], c: usize) -> u32
+    requires { WantsZone (zone ground.now.sheet.now) at.now c }
+    ensures { result ≡ not_gone (zone ground.now.sheet.now) ground.now.ahead.now at.now left.now c }
 {
     let x = 8 * c + usize::from(at[c]);
-    let z = sheet.zone(x);
-    carts::count(carts::less(ahead[x], left[z]))
+    let z = ground.sheet.zone(x);
+    carts::count(carts::less(ground.ahead[x], left[z]))
 }
 
 // The same, and one more if the lane holds the cart.
-fn carts_ahead(
-    sheet: &Table,
-    lanes: &Lanes,
-    ahead: &[u16; 128],
-    at: &[u8; 16],
-    left: &[u16; 24],
-    c: usize,
-) -> u32
-    requires { WantsZone (zone sheet.now) at.now c × (lanes.now ≡ lanes_of sheet.now) }
-    ensures { result ≡ held_by (crossing_of sheet.now ahead.now) (zone sheet.now) ahead.now
+fn carts_ahead(ground: &Ground, at: &[u8; 16], left: &[u16; 24], c: usize) -> u32
+    requires { WantsZone (zone ground.now.sheet.now) at.now c }
+    ensures { result ≡ held_by (crossing_of ground.now.sheet.now ground.now.ahead.now) (zone ground.now.sheet.now) ground.now.ahead.now
         at.now left.now c }
 {
-    not_gone(sheet, ahead, at, left, c) + u32::from(lane_holds(lanes, at, c))
+    not_gone(ground, at, left, c) + u32::from(lane_holds(&ground.lanes, at, c))
 }
 
 // Under a readable plan of m carts: the plan is not locked (22), a run reaches the record (23), and the cart is on the sheet (24) and not out (25).
 // Then for each zone the carts that have left it, or the first check that fails.
-pub fn test_cart(
-    sheet: &Table,
-    lanes: &Lanes,
-    ahead: &[u16; 128],
-    m: usize,
-    lent: Record,
-    cart: usize,
-) -> Result<[u16; 24], Outcome>
-    requires { Askable sheet.now ahead.now m × (lanes.now ≡ lanes_of sheet.now) }
-    ensures { TestedIn sheet.now ahead.now m lent cart result }
+pub fn test_cart(ground: &Ground, m: usize, lent: Record, cart: usize) -> Result<[u16; 24], Outcome>
+    requires { Askable ground.now.sheet.now ground.now.ahead.now m }
+    ensures { TestedIn ground.now.sheet.now ground.now.ahead.now m lent cart result }
 {
-    if !all_out(sheet, lanes, ahead) {
+    if !all_out(ground) {
         return Err(refused(22, 0));
     }
-    let Some(left) = test_record(sheet, lanes, ahead, lent) else {
+    let Some(left) = test_record(ground, lent) else {
         return Err(refused(23, 0));
     };
     if m <= cart {
         return Err(refused(24, 0));
     }
-    if sheet.steps(cart) < usize::from(lent.position[cart]) {
+    if ground.sheet.steps(cart) < usize::from(lent.position[cart]) {
         return Err(refused(25, 0));
     }
     Ok(left)
 }
 
 // A request under a readable plan, of m carts: the checks of the record and the cart, and the cart is not held (26).
-fn ask_plan(sheet: &Table, ahead: &[u16; 128], m: usize, lent: Record, cart: usize) -> Asked
-    requires { Askable sheet.now ahead.now m }
-    ensures { AskedIn sheet.now ahead.now m lent cart result }
+fn ask_plan(ground: &Ground, m: usize, lent: Record, cart: usize) -> Asked
+    requires { Askable ground.now.sheet.now ground.now.ahead.now m }
+    ensures { AskedIn ground.now.sheet.now ground.now.ahead.now m lent cart result }
 {
-    let lanes = lanes(sheet);
-    let left = match test_cart(sheet, &lanes, ahead, m, lent, cart) {
+    let left = match test_cart(ground, m, lent, cart) {
         Ok(left) => left,
         Err(refusal) => return no_move(refusal, 0),
     };
     let at = lent.position;
-    if !may_move(sheet, &lanes, ahead, &at, &left, cart) {
-        return no_move(
-            refused(26, 0),
-            carts_ahead(sheet, &lanes, ahead, &at, &left, cart),
-        );
+    if !may_move(ground, &at, &left, cart) {
+        return no_move(refused(26, 0), carts_ahead(ground, &at, &left, cart));
     }
     Asked {
         outcome: done(),
@@ -129,7 +110,10 @@ pub fn ask(s: &[u8], p: &[u8], lent: Record, cart: usize) -> Asked
     let mut sheet = Table::blank();
     let mut orders = no_orders();
     match read_tables(s, p, &mut sheet, &mut orders) {
-        Ok(read) => ask_plan(&sheet, &orders.ahead, read.carts, lent, cart),
+        Ok(read) => {
+            let ground = Ground::of(&sheet, &orders.ahead);
+            ask_plan(&ground, read.carts, lent, cart)
+        }
         Err(refusal) => no_move(refusal, 0),
     }
 }

@@ -17,7 +17,6 @@ use Rattle.plan.specs.declared.Orders.{Orders}
 use Rattle.plan.specs.declared.PlanRead.{PlanRead}
 use Rattle.plan.proofs.Readable.{readable_whole}
 use Rattle.plan.proofs.Further.{further_refused, further_read}
-use Rattle.judge_entering.specs.inner.Lanes.{lanes_of}
 use Rattle.judge.specs.Judging.{orders_read}
 use Rattle.judge.proofs.Rings.{sheet_wanting, orders_listable}
 use Rattle.moving_record.specs.declared.Record.{Record}
@@ -63,14 +62,13 @@ module _ (table : Table) (orders : Orders) (carts : ℕ) (lent : Record) (cart :
         → AllPass (record_checks (sheet_in zones carts table) orders lent cart)
     passed zones = passed_in table orders.ahead carts lent cart left says zones orders.count orders.list
 
-    pub followable_in : PlanIn table orders carts → (lanes : List ℕ) → lanes ≡ lanes_of table → Followable table lanes orders lent.position left cart
-    followable_in plan lanes are =
+    pub followable_in : PlanIn table orders carts → Followable table orders.ahead orders lent.position left cart
+    followable_in plan =
         let sheet = sheet_in plan.zones carts table in
         let all = passed plan.zones plan.valid plan.valid_orders in
         let (far, few, free) = free_within sheet orders plan.valid plan.valid_orders lent cart all left says.standing in
         record {
           pointable = record {
-            lanes_are = are;
             wanting = sheet_wanting sheet plan.valid lent.position;
             listable = orders_listable sheet plan.valid lent.position orders plan.valid_orders;
           };
@@ -81,7 +79,7 @@ module _ (table : Table) (orders : Orders) (carts : ℕ) (lent : Record) (cart :
           free = free;
         }
 
-    pub chain_in_lem : WhyIn table orders carts lent cart (chain_in table orders lent.position left cart)
+    pub chain_in_lem : WhyIn table orders carts lent cart (chain_in table orders.ahead orders lent.position left cart)
     chain_in_lem zones v w =
         let sheet = sheet_in zones carts table in
         chain_is sheet orders v w lent cart (passed zones v w) left says.standing

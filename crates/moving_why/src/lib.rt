@@ -7,7 +7,7 @@ ghost use Rattle.sheet_table.specs.inner.Parts.{steps};
 ghost use Rattle.moving_why.specs.Why.{chain_refused, why};
 ghost use Rattle.moving_why.specs.inner.Tables.{last_in, Followable, chain_in, PlanIn, WhyIn};
 
-use judge_entering::{Lanes, lanes};
+use judge_entering::Ground;
 use judge_one_move::may_move;
 use judge_ring::{points_to, wanted_zone};
 use moving_asking::test_cart;
@@ -52,15 +52,14 @@ fn wants_out(sheet: &Table, at: &[u8; 16], c: usize) -> u8
 
 // The chain from a cart, where the carts stand and have left zones as the tables say.
 fn chain_from(
-    sheet: &Table,
-    lanes: &Lanes,
+    ground: &Ground,
     orders: &Orders,
     at: &[u8; 16],
     left: &[u16; 24],
     asked: usize,
 ) -> Chain
-    requires { Followable sheet.now lanes.now orders.now at.now left.now asked }
-    ensures { result ≡ chain_in sheet.now orders.now at.now left.now asked }
+    requires { Followable ground.now.sheet.now ground.now.ahead.now orders.now at.now left.now asked }
+    ensures { result ≡ chain_in ground.now.sheet.now ground.now.ahead.now orders.now at.now left.now asked }
 {
     let mut cart = [0u8; 16];
     let mut zone = [0u8; 16];
@@ -69,18 +68,18 @@ fn chain_from(
     // No range says how long the chain is: it ends at a cart that may move.
     loop {
         cart[n] = c as u8;
-        zone[n] = wanted_zone(sheet, at, c) as u8;
-        if may_move(sheet, lanes, &orders.ahead, at, left, c) {
+        zone[n] = wanted_zone(ground.sheet, at, c) as u8;
+        if may_move(ground, at, left, c) {
             return Chain {
                 outcome: done(),
                 length: n + 1,
                 cart,
                 zone,
-                out: wants_out(sheet, at, c),
+                out: wants_out(ground.sheet, at, c),
             };
         }
         n += 1;
-        c = points_to(sheet, lanes, orders, at, left, c);
+        c = points_to(ground, orders, at, left, c);
     }
 }
 
@@ -89,9 +88,9 @@ fn why_plan(sheet: &Table, orders: &Orders, m: usize, lent: Record, cart: usize)
     requires { PlanIn sheet.now orders.now m }
     ensures { WhyIn sheet.now orders.now m lent cart result }
 {
-    let lanes = lanes(sheet);
-    match test_cart(sheet, &lanes, &orders.ahead, m, lent, cart) {
-        Ok(left) => chain_from(sheet, &lanes, orders, &lent.position, &left, cart),
+    let ground = Ground::of(sheet, &orders.ahead);
+    match test_cart(&ground, m, lent, cart) {
+        Ok(left) => chain_from(&ground, orders, &lent.position, &left, cart),
         Err(refusal) => no_chain(refusal),
     }
 }

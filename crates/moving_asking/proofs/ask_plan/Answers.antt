@@ -1,27 +1,20 @@
 -- The test of record and cart decides, or the move does.
 use mathlib.Core.Path.{◌∙◌}
 use native.Mathlib.Omega.{arith}
-use Rattle.plan_reader.proofs.ValidLaws.{valid_lanes}
 use Rattle.moving_asking.proofs.InTables.{untested_in, cart_in, place_in, made_in, moved_in, wanting_in, held_in}
 use Rattle.moving_asking.proofs.ask_plan.Goals as goal
 
-pub lanes-lanes-requires : goal.lanes-lanes-requires
-lanes-lanes-requires c = valid_lanes _ c.requires.valid
-
 pub test_cart-requires : goal.test_cart-requires
-test_cart-requires c = (c.requires, c.lanes-lanes.ensures)
+test_cart-requires c = c.requires
 
 pub returns-in-Err : goal.returns-in-Err
 returns-in-Err c = λ n a b v w. c.no_move.ensures ∙ untested_in _ _ _ _ _ _ c.in-Err.ensures n a b v w
 
 pub may_move-requires : goal.may_move-requires
-may_move-requires c = (c.in-Ok.ensures.standing, cart_in _ _ _ _ _ _ c.in-Ok.ensures c.requires, c.lanes-lanes.ensures)
+may_move-requires c = (c.in-Ok.ensures.standing, cart_in _ _ _ _ _ _ c.in-Ok.ensures c.requires)
 
 pub carts_ahead-requires : goal.carts_ahead-requires
-carts_ahead-requires c = (
-  wanting_in _ _ _ _ _ _ c.in-Ok.ensures _ c.may_move.ensures c.if-not-may_move.true c.requires,
-  c.lanes-lanes.ensures,
-)
+carts_ahead-requires c = wanting_in _ _ _ _ _ _ c.in-Ok.ensures _ c.may_move.ensures c.if-not-may_move.true c.requires
 
 pub returns-then-not-may_move : goal.returns-then-not-may_move
 returns-then-not-may_move c = λ n a b v w. c.no_move-then-not-may_move.ensures ∙ rw c.refused.ensures

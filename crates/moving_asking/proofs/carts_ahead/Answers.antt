@@ -8,10 +8,10 @@ use Rattle.moving_asking.proofs.Bit.{bit_is, bit_most}
 use Rattle.moving_asking.proofs.carts_ahead.Goals as goal
 
 pub not_gone-requires : goal.not_gone-requires
-not_gone-requires c = c.requires.0
+not_gone-requires c = c.requires
 
 pub lane_holds-requires : goal.lane_holds-requires
-lane_holds-requires c = (c.requires.0.cart, front_16 _ _ c.requires.1 _ c.requires.0.cart)
+lane_holds-requires c = (c.requires.cart, front_16 _ _ c.args.ground.now.lanes_are _ c.requires.cart)
 
 pub overflow_add-result : goal.overflow_add-result
 overflow_add-result c =
@@ -19,5 +19,5 @@ overflow_add-result c =
     record { fits = omega (arith, few, c.from.ensures, bit_most c.lane_holds.result) }
 
 pub returns : goal.returns
-returns c = rw (sym (c.lane_holds.ensures c.args.sheet.now c.args.ahead.now c.requires.1))
+returns c = rw (sym (c.lane_holds.ensures c.args.ground.now.sheet.now c.args.ground.now.ahead.now c.args.ground.now.lanes_are))
     (omega (arith, c.not_gone.ensures, c.from.ensures, bit_is c.lane_holds.result))

@@ -31,7 +31,7 @@ pub bounds-zone-n : goal.bounds-zone-n
 bounds-zone-n c = so_far_few _ _ _ _ _ _ _ _ _ c.loop-cart.invariant _ c.requires.far_few c.requires.free
 
 pub may_move-requires : goal.may_move-requires
-may_move-requires c = (c.requires.standing, c.loop-cart.invariant.here_cart, c.requires.pointable.lanes_are)
+may_move-requires c = (c.requires.standing, c.loop-cart.invariant.here_cart)
 
 pub overflow_add-result : goal.overflow_add-result
 overflow_add-result c = record {
@@ -44,7 +44,7 @@ wants_out-requires c = c.loop-cart.invariant.here_cart
 pub returns-then-may_move : goal.returns-then-may_move
 returns-then-may_move c = rw (c.done.ensures, c.wanted_zone.ensures, c.wants_out.ensures)
     (so_far_end _ _ _ _ _ _ _ _ _ c.loop-cart.invariant _ c.requires.far_few c.requires.free (carts_16 _ _ _ _)
-    (c.may_move.ensures.0 c.if-may_move.true) (last_in (parts.steps c.args.sheet.now) c.args.at.now))
+    (c.may_move.ensures.0 c.if-may_move.true) (last_in (parts.steps c.args.ground.now.sheet.now) c.args.at.now))
 
 pub overflow_add-n : goal.overflow_add-n
 overflow_add-n c = omega (

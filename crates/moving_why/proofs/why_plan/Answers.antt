@@ -4,14 +4,23 @@ use Rattle.plan_reader.proofs.ValidLaws.{valid_lanes}
 use Rattle.moving_why.proofs.WhyLaws.{untested_in, followable_in, chain_in_lem}
 use Rattle.moving_why.proofs.why_plan.Goals as goal
 
-pub lanes-lanes-requires : goal.lanes-lanes-requires
-lanes-lanes-requires c = valid_lanes _ c.requires.valid
+pub of-ground-requires : goal.of-ground-requires
+of-ground-requires c = valid_lanes _ c.requires.valid
+
+pub test_cart-requires : goal.test_cart-requires
+test_cart-requires c = rw (c.of-ground.ensures.0, c.of-ground.ensures.1) record {
+  zones = _;
+  count = _;
+  list = _;
+  valid = c.requires.valid;
+  valid_orders = c.requires.valid_orders;
+}
 
 pub chain_from-requires : goal.chain_from-requires
-chain_from-requires c = followable_in _ _ _ _ _ _ c.in-Ok.ensures c.requires _ c.lanes-lanes.ensures
+chain_from-requires c = rw (c.of-ground.ensures.0, c.of-ground.ensures.1) (followable_in _ _ _ _ _ _ (rw (c.of-ground.ensures.0, c.of-ground.ensures.1) at c.in-Ok.ensures) c.requires)
 
 pub returns-in-Ok : goal.returns-in-Ok
-returns-in-Ok c = λ n v w. c.chain_from.ensures ∙ chain_in_lem _ _ _ _ _ _ c.in-Ok.ensures n v w
+returns-in-Ok c = λ n v w. (rw (c.of-ground.ensures.0, c.of-ground.ensures.1) at c.chain_from.ensures) ∙ chain_in_lem _ _ _ _ _ _ (rw (c.of-ground.ensures.0, c.of-ground.ensures.1) at c.in-Ok.ensures) n v w
 
 pub returns-in-Err : goal.returns-in-Err
-returns-in-Err c = λ n v w. c.no_chain.ensures ∙ untested_in _ _ _ _ _ _ c.in-Err.ensures n v w
+returns-in-Err c = λ n v w. c.no_chain.ensures ∙ untested_in _ _ _ _ _ _ (rw (c.of-ground.ensures.0, c.of-ground.ensures.1) at c.in-Err.ensures) n v w

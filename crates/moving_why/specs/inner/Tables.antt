@@ -23,19 +23,19 @@ use Rattle.sheet_table.specs.declared.Table.{Table}
 abbrev pub last_in : List ℕ → List ℕ → ℕ → Bool
 last_in steps at c = eqb (get_or at c 0) (get_or steps c 0)
 
-abbrev pub chain_in : Table → Orders → List ℕ → List ℕ → ℕ → Chain
-chain_in sheet orders at left c =
-    chain_by (system (crossing_of sheet orders.ahead)) at (point_of sheet orders.count orders.list at left) (wanted_in (steps sheet) (zone sheet) at)
+abbrev pub chain_in : Table → List ℕ → Orders → List ℕ → List ℕ → ℕ → Chain
+chain_in sheet ahead orders at left c =
+    chain_by (system (crossing_of sheet ahead)) at (point_of sheet orders.count orders.list at left) (wanted_in (steps sheet) (zone sheet) at)
     (last_in (steps sheet) at) c
 
 -- carts can be pointed to and tested, and the pointing comes within 16 carts to one that may move
-pub record Followable (sheet : Table) (lanes : List ℕ) (orders : Orders) (at left : List ℕ) (c : ℕ) : Type 0 where
-  pub pointable : Pointable sheet lanes orders.count orders.list at
-  pub standing : Standing (crossing_of sheet orders.ahead) at left
+pub record Followable (sheet : Table) (ahead : List ℕ) (orders : Orders) (at left : List ℕ) (c : ℕ) : Type 0 where
+  pub pointable : Pointable sheet orders.count orders.list at
+  pub standing : Standing (crossing_of sheet ahead) at left
   pub cart : c < 16
   pub far : ℕ
   pub far_few : far < 16
-  pub free : Permitted (system (crossing_of sheet orders.ahead)) at (follow (point_of sheet orders.count orders.list at left) far c)
+  pub free : Permitted (system (crossing_of sheet ahead)) at (follow (point_of sheet orders.count orders.list at left) far c)
 
 module _ (sheet : Sheet) (orders : Orders) (lent : Record) (cart : ℕ) where
   -- what is answered once the plan is read

@@ -15,6 +15,7 @@ use judge_one_move::may_enter;
 use plan::sum_of;
 use plan_lists::who_visits;
 use sheet_table::Table;
+use std::array;
 
 // The crossing record: where each cart stands, 0 on the lane, k in its k-th zone, steps + 1 out, and how many moves were made. All zero is the start.
 #[repr(C)]
@@ -44,7 +45,7 @@ fn none_past_out(sheet: &Table, at: &[u8; 16]) -> bool
 fn zones_left(at: &[u8; 16]) -> [u8; 16]
     ensures { result ≡ zones_left at.now }
 {
-    at.map(|p| p.saturating_sub(1))
+    array::from_fn(|c| at[c].saturating_sub(1))
 }
 
 // Whether all carts ahead of each of the first k steps of cart c have left the step's zone.
@@ -52,7 +53,12 @@ fn in_turn(sheet: &Table, ahead: &[u16; 128], left: &[u16; 24], c: usize, k: usi
     requires { InZones (zone sheet.now) c k }
     ensures { (result ≡ true) ↔ InTurn (zone sheet.now) ahead.now left.now c k }
 {
-    (0..k).all(|j| may_enter(sheet, ahead, left, 8 * c + j))
+    for j in 0..k {
+        if !may_enter(sheet, ahead, left, 8 * c + j) {
+            return false;
+        }
+    }
+    true
 }
 
 // The same of every step that a cart has entered.

@@ -42,7 +42,7 @@ fn no_chain(outcome: Outcome) -> Chain
     }
 }
 
-// 1 where cart c stands in its last zone, and so wants the move out; else 0.
+// 1 where cart c stands in its last zone, and so wants the move out; else 0. C reads it as a number.
 fn wants_out(sheet: &Table, at: &[u8; 16], c: usize) -> u8
     requires { c < 16 }
     ensures { result ≡ bit (last_in (steps sheet.now) at.now c) }

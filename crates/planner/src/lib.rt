@@ -12,7 +12,7 @@ ghost use Rattle.planner.specs.inner.Lists.{ByRule, ToList, ListsOf};
 
 use judge_finish::finish_of;
 use judge_one_move::Run;
-use judge_running::settle;
+use judge_verdict::verdict_of;
 use plan::{Orders, sum_of};
 use plan_lists::who_visits;
 use plan_writer::write_plan;
@@ -45,7 +45,7 @@ fn lists_of(sheet: &Table, visitors: &[u16; 24], ahead: &[u16; 128]) -> OrdersPl
     ensures { ListsOf sheet.now ahead.now result }
 {
     let mut run = Run::start();
-    settle(sheet, ahead, &mut run);
+    verdict_of(sheet, ahead, &mut run);
     OrdersPlanned {
         orders: passing_lists(sheet, visitors, ahead),
         finish: finish_of(sheet, &run.enter),
@@ -120,6 +120,7 @@ fn planned_by(rule: Rule, s: &[u8], room: &mut [u8]) -> Result<Planned, Outcome>
     })
 }
 
+// The same, the refusal put in the answer.
 fn plan_by(rule: Rule, s: &[u8], room: &mut [u8]) -> Planned
     ensures answer { result ≡ plan_sheet rule s.now (length room.old) }
     ensures holds { room.new ≡ room_after rule s.now room.old }

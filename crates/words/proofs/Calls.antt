@@ -1,17 +1,15 @@
--- What calls of a closure come to, one for each number below n, where a call leaves the closure as it was: an array that is made of them, and a search.
-use Prim.Native.Nat.{ℕ, zero, suc, ◌+◌, ◌≤◌, ◌<◌}
-use mathlib.Core.Path.{◌≡◌, sym, subst, ◌∙◌}
+-- Calls of a closure that changes nothing, at each number below n in turn: what they are asked, as `array::from_fn` asks it, and what a search by them finds.
+use Prim.Native.Nat.{ℕ, ◌<◌}
+use mathlib.Core.Path.{◌≡◌, sym, subst}
 use mathlib.Core.List.{List, [], ◌∷◌}
 use mathlib.Core.Bool.{Bool, true, false}
 use native.Mathlib.Omega.{arith}
-use native.Mathlib.Decide.{ℕ_discrete}
 use lib.ListN.{length, get_or}
-use lib.Seq.{ext_get_or}
 use denote.Param.Members.{Mut, Called}
 use Rattle.std.specs.Prelude.{Some, MatchBool}
 use Rattle.std.specs.List.{FoldsTo}
 use Rattle.std.specs.Iterator.{CallableAtEachTurn, Yields, ChecksAny}
-use Rattle.std.specs.Array.{index_steps, IsFromFnResult, IsFromFnResultFrom}
+use Rattle.std.specs.Array.{index_steps}
 use Rattle.std.specs.List.{range_with_len, AllWithin, HoldsAt}
 use Rattle.std.specs.declared.ops.Range.{Range}
 use Rattle.std.proofs.iter.Yields.{nat_range_steps}
@@ -32,20 +30,6 @@ module _ {F : Type 0} (g : Mut F (ℕ × Unit {0}) ℕ) (f : F) (n : ℕ) where
 
     pub calls_taken : CallableAtEachTurn (index_steps n) Turn (λ p i. g.pre p (i, tt)) 0 f
     calls_taken = record { at = λ done t q i u y c e. each_taken done 0 t i u q y c e }
-
-  module _ (l ys : List ℕ) (gives : (i r : ℕ) (q : F) → i < n → Called g f (i, tt) r q → (q ≡ f) × (r ≡ get_or l i 0)) where
-    each_given : (m i k : ℕ) → i + m ≡ n → i ≤ k → k < n → IsFromFnResultFrom g f ys i m → get_or ys k 0 ≡ get_or l k 0
-    each_given zero i k e a b h = absurd (omega arith)
-    each_given (suc m) i k e a b (q, y, is, called, later) =
-        let (same, told) = gives i y q (omega arith) called in
-        elim (ℕ_discrete k i) [
-          | yes p ↦ rw p (is.1 0 ∙ told)
-          | no p ↦ each_given m (i + 1) k (omega arith) (omega arith) b (subst (λ (p : F). IsFromFnResultFrom g p ys (i + 1) m) same later)
-        ]
-
-    pub calls_give : length l ≡ n → IsFromFnResult g f ys n → ys ≡ l
-    calls_give e h = ext_get_or 0 ys l (h.long ∙ sym e) λ k b.
-        each_given n 0 k (omega arith) (omega arith) (omega (arith, h.long)) h.each
 
 -- whether a closure answers true at some number below n, where it answers by a test
 pub calls_any : {F : Type 0} {g : Mut F (ℕ × Unit {0}) Bool} (f : F) (s u : Range ℕ) (n : ℕ) (r : Bool) (test : ℕ → Bool) → s ≡ record { start = 0; end = n }

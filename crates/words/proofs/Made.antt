@@ -1,11 +1,12 @@
 -- What `array::from_fn` makes by a closure that changes nothing: each entry is what the call with its number gives.
 use Prim.Native.Nat.{ℕ, zero, suc, ◌+◌, ◌≤◌, ◌<◌}
-use mathlib.Core.Path.{◌≡◌, refl, subst}
+use mathlib.Core.Path.{◌≡◌, refl, sym, subst, ◌∙◌}
 use mathlib.Core.List.{List}
 use native.Mathlib.Decide.{ℕ_discrete, dec_lt}
 use native.Mathlib.Omega.{arith}
 use denote.Param.Members.{Mut, Called}
-use lib.ListN.{get_or, get_or-eq_default}
+use lib.ListN.{length, get_or, get_or-eq_default}
+use lib.Seq.{ext_get_or}
 use Rattle.std.specs.Array.{IsFromFnResult, IsFromFnResultFrom}
 use Rattle.words.specs.Lists.{entries}
 use Rattle.words.proofs.Entries.{entries_is}
@@ -26,6 +27,9 @@ module _ {F : Type 0} {g : Mut F (ℕ × Unit {0}) ℕ} {f : F} {ys : List ℕ} 
 
   pub made_table : (rule : ℕ → ℕ) → ((i y : ℕ) (q : F) → i < n → Called g f (i, tt) y q → (q ≡ f) × (y ≡ rule i)) → ys ≡ entries n 0 rule
   made_table rule calls = entries_is ys n rule made.long (made_each (λ k y. y ≡ rule k) calls)
+
+  pub made_list : (l : List ℕ) → ((i y : ℕ) (q : F) → i < n → Called g f (i, tt) y q → (q ≡ f) × (y ≡ get_or l i 0)) → length l ≡ n → ys ≡ l
+  made_list l calls long = ext_get_or 0 ys l (made.long ∙ sym long) λ k h. made_each (λ i y. y ≡ get_or l i 0) calls k (omega (arith, made.long))
 
   pub made_below : (most : ℕ) → 0 < most → ((i y : ℕ) (q : F) → i < n → Called g f (i, tt) y q → (q ≡ f) × (y < most)) → (x : ℕ) → get_or ys x 0 < most
   made_below most some calls x =

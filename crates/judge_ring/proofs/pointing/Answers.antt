@@ -1,7 +1,7 @@
 -- Each call of the closure gives the cart that the definition points to, and changes nothing.
 use Rattle.std.proofs.Common.{rules}
 use native.Mathlib.Omega.{arith}
-use Rattle.judge_ring.proofs.Made.{made_table, made_below}
+use Rattle.words.proofs.Made.{made_table, made_below}
 use Rattle.judge_ring.proofs.pointing.Goals as goal
 
 pub returns : goal.returns

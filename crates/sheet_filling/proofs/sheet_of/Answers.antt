@@ -2,7 +2,8 @@
 use lib.Dec.{lit<}
 use Rattle.std.proofs.Common.{rules}
 use Rattle.sheet_filling.proofs.Ranges.{steps_entries, zone_entries, passing_entries, travel_entries}
-use Rattle.words.proofs.Calls.{calls_taken, calls_give}
+use Rattle.words.proofs.Calls.{calls_taken}
+use Rattle.words.proofs.Made.{made_list}
 use Rattle.sheet_filling.proofs.sheet_of.Goals as goal
 
 pub step_counts-requires : goal.step_counts-requires
@@ -19,12 +20,12 @@ from_fn-requires-7 c = (lit< tt, calls_taken _ _ _ (λ i r q k. search rules) (�
 
 pub returns : goal.returns
 returns c = rw (
-  calls_give _ _ _ _ _ (λ i r q l k. search rules) c.requires.shaped.follow_24 c.from_fn.ensures.items,
-  calls_give _ _ _ _ _ (λ i r q l k. search rules) c.requires.shaped.cross_24 c.from_fn-2.ensures.items,
-  calls_give _ _ _ _ _ (λ i r q l k. search rules) c.requires.shaped.lane_16 c.from_fn-3.ensures.items,
-  calls_give _ _ _ _ _ (λ i r q l k. search rules) c.requires.shaped.arrival_16 c.from_fn-4.ensures.items,
+  made_list c.from_fn.ensures.items _ (λ i y q l k. search rules) c.requires.shaped.follow_24,
+  made_list c.from_fn-2.ensures.items _ (λ i y q l k. search rules) c.requires.shaped.cross_24,
+  made_list c.from_fn-3.ensures.items _ (λ i y q l k. search rules) c.requires.shaped.lane_16,
+  made_list c.from_fn-4.ensures.items _ (λ i y q l k. search rules) c.requires.shaped.arrival_16,
   c.step_counts.ensures,
-  calls_give _ _ _ _ _ (λ i r q l k. search rules) c.requires.shaped.zone_128 c.from_fn-5.ensures.items,
-  calls_give _ _ _ _ _ (λ i r q l k. search rules) c.requires.shaped.passing_128 c.from_fn-6.ensures.items,
-  calls_give _ _ _ _ _ (λ i r q l k. search rules) c.requires.shaped.travel_128 c.from_fn-7.ensures.items,
+  made_list c.from_fn-5.ensures.items _ (λ i y q l k. search rules) c.requires.shaped.zone_128,
+  made_list c.from_fn-6.ensures.items _ (λ i y q l k. search rules) c.requires.shaped.passing_128,
+  made_list c.from_fn-7.ensures.items _ (λ i y q l k. search rules) c.requires.shaped.travel_128,
 )

@@ -5,7 +5,7 @@ ghost use Rattle.std.specs.Prelude.{◌≡◌, ◌↔◌, true, ◌≤◌, ◌<�
 ghost use Rattle.sets.specs.inner.Member.{Within};
 ghost use Rattle.moves.specs.System.{pos};
 ghost use Rattle.moves.specs.Moves.{moved, Permitted};
-ghost use Rattle.routes.specs.Moves.{system};
+ghost use Rattle.routes.specs.Moves.{moves_of, system};
 ghost use Rattle.sheet_table.specs.inner.Parts.{steps, zone, passing};
 ghost use Rattle.crossing.specs.inner.Tables.{crossing_of};
 ghost use Rattle.judge_entering.specs.inner.Times.{Enterable};
@@ -15,6 +15,14 @@ ghost use Rattle.judge_one_move.specs.inner.Running.{no_moves, Joins, ZoneLeft, 
 use judge_entering::{Ground, enter_zone, front_enters, lane_holds};
 use sets::carts;
 use sheet_table::Table;
+
+// The position at which a cart with so many steps is out; an absent cart is out at 0.
+pub fn out_at(steps: usize) -> u8
+    requires { steps ≤ 8 }
+    ensures { result ≡ moves_of steps }
+{
+    if steps == 0 { 0 } else { (steps + 1) as u8 }
+}
 
 // Cart c joins the set of the carts that have left zone z.
 pub fn join(left: &mut [u16; 24], z: usize, c: usize)

@@ -2,7 +2,6 @@
 #![tactic(auto)]
 
 ghost use Rattle.std.specs.Prelude.{◌≡◌, ◌↔◌, true, ◌≤◌};
-ghost use Rattle.routes.specs.Moves.{moves_of};
 ghost use Rattle.sheet_table.specs.inner.Parts.{lane, steps, zone};
 ghost use Rattle.crossing.specs.inner.Tables.{crossing_of};
 ghost use Rattle.plan_lists.specs.inner.Sets.{Routes};
@@ -11,7 +10,7 @@ ghost use Rattle.moving_record.specs.inner.Tables.{NonePastOut, zones_left, InZo
 ghost use Rattle.moving_record.specs.inner.Tables.{Orderly, TestedAs};
 
 use judge_entering::{Ground, Lanes, front_gone};
-use judge_one_move::may_enter;
+use judge_one_move::{may_enter, out_at};
 use plan::sum_of;
 use plan_lists::who_visits;
 use sheet_table::Table;
@@ -25,20 +24,12 @@ pub struct Record {
     pub made: u32,
 }
 
-// The position at which a cart with so many steps is out; an absent cart is out at 0.
-fn out_at(steps: usize) -> usize
-    requires { steps ≤ 8 }
-    ensures { result ≡ moves_of steps }
-{
-    if steps == 0 { 0 } else { steps + 1 }
-}
-
 // Whether no cart stands past out.
 fn none_past_out(sheet: &Table, at: &[u8; 16]) -> bool
     requires { Routes (steps sheet.now) (zone sheet.now) }
     ensures { (result ≡ true) ↔ NonePastOut (steps sheet.now) at.now }
 {
-    (0..16).all(|c| usize::from(at[c]) <= out_at(sheet.steps(c)))
+    (0..16).all(|c| at[c] <= out_at(sheet.steps(c)))
 }
 
 // How many zones each cart has left.

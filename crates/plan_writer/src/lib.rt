@@ -10,6 +10,7 @@ ghost use Rattle.plan_writer.specs.inner.Writing.{Writable, WritableList};
 use plan::{Orders, no_orders, sum_of};
 use plan_reader::read_tables;
 use sheet_filling::step_counts;
+use sheet_table::Table;
 use words::{Outcome, done, refused};
 
 // Zone z's list, written from a place on; answers the place after it.

@@ -6,6 +6,7 @@ ghost use Rattle.plan_zone_list.specs.Finding.{not_found, FoundIs, PartIs};
 
 use plan::{no_orders, sum_of};
 use plan_reader::read_tables;
+use sheet_table::Table;
 use words::{Outcome, done, refused};
 
 // Where a zone's passing list stands in the plan lent, or a refusal with both 0.

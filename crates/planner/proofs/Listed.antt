@@ -1,6 +1,6 @@
 -- A table that stands for passable orders: its lists are the plan's, and the carts that settle over it give the finish.
 use Prim.Native.Nat.{ℕ}
-use mathlib.Core.Path.{◌≡◌, refl, sym, ap, ◌∙◌}
+use mathlib.Core.Path.{◌≡◌, sym, ap, ◌∙◌}
 use mathlib.Core.Bool.{true}
 use mathlib.Core.List.{List}
 use Rattle.moves.specs.System.{System}
@@ -12,6 +12,7 @@ use Rattle.times.specs.Running.{moves_made, is_out, entering_time}
 use Rattle.times.proofs.Rules.{times_keep}
 use Rattle.sheet.specs.Valid.{Valid}
 use Rattle.sheet.specs.declared.Sheet.{Sheet}
+use Rattle.plan.specs.declared.Orders.{Orders}
 use Rattle.plan_lists.specs.inner.Sets.{who_visits}
 use Rattle.plan_reader.proofs.ValidLaws.{valid_routes}
 use Rattle.crossing.specs.inner.Tables.{sheet_fronts, crossing_by, sheet_crossing}
@@ -29,10 +30,9 @@ use Rattle.planner_orders.specs.inner.Unplanned.{ordered}
 use Rattle.planner_orders.specs.inner.Stands.{StandsFor}
 use Rattle.planner_orders.proofs.Settled.{stands_system, stands_sound, stands_out, stands_times}
 use Rattle.planner_lists.specs.inner.Places.{Placeable, Listed}
-use Rattle.planner_lists.specs.declared.PassingLists.{PassingLists}
 use Rattle.planner_lists.proofs.Lists.{strict_placeable, lists_are}
 use Rattle.planner.specs.Planning.{unplanned, finish_of}
-use Rattle.planner.specs.inner.Lists.{lists_in}
+use Rattle.planner.specs.inner.Lists.{OfCrossing}
 use Rattle.planner.proofs.Rules.{as_ordered}
 
 module _ (sheet : Sheet) (v : Valid sheet) (F : Crossing) (good : Passable (unplanned sheet) F)
@@ -81,10 +81,9 @@ module _ (sheet : Sheet) (v : Valid sheet) (F : Crossing) (good : Passable (unpl
         (stands_times sheet.steps sheet.zone _ _ _ _ _ _ _ _ F.before only ahead own at left enter order made settled out)
         ∙ ap (finish_of sheet) (sym (as_ordered U F good))
 
-    pub lists_told : {who : List ℕ} → who ≡ who_visits sheet.steps sheet.zone → {r : PassingLists} → Listed sheet.steps sheet.zone ahead who r
-        → {last : ℕ} → last ≡ largest (last_leaving sheet.steps sheet.passing enter) 16
-        → record { count = r.count; list = r.list; finish = last } ≡ lists_in sheet F
+    pub lists_told : {who : List ℕ} → who ≡ who_visits sheet.steps sheet.zone → {r : Orders} → Listed sheet.steps sheet.zone ahead who r
+        → {last : ℕ} → last ≡ largest (last_leaving sheet.steps sheet.passing enter) 16 → OfCrossing sheet F (record { orders = r; finish = last })
     unfolding orders_by
     lists_told {who} is {r} listed told =
         let (counts, lists) = lists_are _ _ _ _ _ _ _ _ _ _ F good ahead stands who is r listed in
-        rw (counts, lists, told ∙ finish_told) refl
+        record { count_is = counts; list_is = lists; finish_is = told ∙ finish_told }

@@ -1,5 +1,5 @@
 -- The orders by each rule are passable, over the sheet's own routes; and of two plans the better one's lists are the lists of the better orders.
-use mathlib.Core.Path.{◌≡◌, refl, ap, ◌∙◌}
+use mathlib.Core.Path.{◌≡◌, sym, ap, ap₂, subst, ◌∙◌}
 use mathlib.Core.Bool.{Bool, true, false}
 use mathlib.Core.List.{List}
 use Prim.Native.Nat.{ℕ}
@@ -22,8 +22,8 @@ use Rattle.planner_orders.specs.inner.Unplanned.{ordered}
 use Rattle.planner_orders.specs.inner.Stands.{StandsFor}
 use Rattle.planner_orders.proofs.Sheets.{sheet_plannable}
 use Rattle.planner.specs.Planning.{unplanned, is_first_earlier, ordered_by}
-use Rattle.planner.specs.inner.Lists.{lists_in, lists_planned, Listable}
-use Rattle.planner.specs.declared.ListsPlanned.{ListsPlanned}
+use Rattle.planner.specs.inner.Lists.{OfCrossing, ByRule, Listable, ToList}
+use Rattle.planner.specs.declared.OrdersPlanned.{OrdersPlanned}
 use Rattle.planner.specs.declared.Rule.{Rule}
 use Rattle.planner.specs.declared.Rule.TheVariants.{Removal, First, Better}
 use Rattle.sheet_table.specs.declared.Table.{Table}
@@ -48,22 +48,25 @@ module _ (sheet : Sheet) (v : Valid sheet) where
       go false = final_passable (unplanned sheet) able
 
 -- so a table that stands for a rule's orders can be listed
-pub rule_listable : (rule : Rule) (n m : ℕ) (table : Table) (ahead : List ℕ) (v : Valid (sheet_in n m table))
-    → StandsFor (unplanned (sheet_in n m table)) (ordered_by (sheet_in n m table) rule) ahead → Listable table ahead n m (ordered_by (sheet_in n m table) rule)
-rule_listable rule n m table ahead v stands = record { valid = v; passable = rule_passable (sheet_in n m table) v rule; stands = stands }
+module _ (rule : Rule) (n m : ℕ) (table : Table) (ahead : List ℕ) (v : Valid (sheet_in n m table))
+    (stands : StandsFor (unplanned (sheet_in n m table)) (ordered_by (sheet_in n m table) rule) ahead) where
+  pub rule_listable : Listable table ahead n m (ordered_by (sheet_in n m table) rule)
+  rule_listable = record { valid = v; passable = rule_passable (sheet_in n m table) v rule; stands = stands }
+
+  pub rule_to_list : (visitors : List ℕ) → visitors ≡ who_visits (parts.steps table) (parts.zone table) → ToList table visitors ahead
+  rule_to_list visitors is =
+      record { zones = n; carts = m; orders = ordered_by (sheet_in n m table) rule; listable = rule_listable; visitors_are = is }
 
 -- "works out both and writes the one which finishes earlier"
-pub better_lists : (sheet : Sheet) → let first = lists_planned First sheet in let removal = lists_planned Removal sheet in
-    pick (ltb first.finish removal.finish) first removal ≡ lists_planned Better sheet
+pub better_orders : (sheet : Sheet) (removal first : OrdersPlanned) → ByRule Removal sheet removal → ByRule First sheet first
+    → ByRule Better sheet (pick (ltb first.finish removal.finish) first removal)
 unfolding ordered_by
-better_lists sheet = go (is_first_earlier sheet)
+better_orders sheet removal first by_rule by_arrival =
+    subst (λ (b : Bool). OfCrossing sheet (ordered_by sheet Better) (pick b first removal)) tested (go (is_first_earlier sheet))
   where
-    go : (b : Bool) → ◌≡◌ {A = ListsPlanned} (pick b (lists_in sheet (first_come (unplanned sheet))) (lists_in sheet (by_removal (unplanned sheet))))
-        (lists_in sheet (pick b (first_come (unplanned sheet)) (by_removal (unplanned sheet))))
-    go true = refl
-    go false = refl
+    tested : is_first_earlier sheet ≡ ltb first.finish removal.finish
+    tested = ap₂ ltb (sym by_arrival.finish_is) (sym by_rule.finish_is)
 
--- the visitors by step counts that are the table's
-pub visitors_are : (table : Table) (counts visitors : List ℕ) → visitors ≡ who_visits counts (parts.zone table) → counts ≡ parts.steps table
-    → visitors ≡ who_visits (parts.steps table) (parts.zone table)
-visitors_are table counts visitors is same = rw same at is
+    go : (b : Bool) → OfCrossing sheet (pick b (first_come (unplanned sheet)) (by_removal (unplanned sheet))) (pick b first removal)
+    go true = by_arrival
+    go false = by_rule

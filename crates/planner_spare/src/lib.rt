@@ -13,6 +13,7 @@ ghost use Rattle.planner_spare.specs.inner.Steps.{spare_in, alone_in, line_in};
 ghost use Rattle.planner_spare.specs.inner.Facts.{StepOf, least_of_step, ReadyBy, TimesBy};
 
 use judge_entering::{front, lanes};
+use judge_one_move::out_at;
 use sets::carts;
 use sheet_table::Table;
 use std::array::from_fn;
@@ -96,20 +97,12 @@ fn put_spare(facts: &SpareFacts, spare: &mut [u32; 128], c: usize, j: usize)
     spare[x] = least_behind(facts, spare, x, least);
 }
 
-// The position at which a cart with k steps is out.
-fn moves_of(k: usize) -> u8
-    requires { k ≤ 8 }
-    ensures { result ≡ moves_of k }
-{
-    if k == 0 { 0 } else { (k + 1) as u8 }
-}
-
 // Where the carts are when all are out.
 fn out_positions(sheet: &Table) -> [u8; 16]
     requires { AtMost 8 (steps sheet.now) }
     ensures { result ≡ entries 16 0 (λ c. moves_of (get_or (steps sheet.now) c 0)) }
 {
-    from_fn(|c| moves_of(sheet.steps(c)))
+    from_fn(|c| out_at(sheet.steps(c)))
 }
 
 // The spare times of all steps, worked back through the run: `order` has the cart of each of its moves, `spare` is all 0 and takes them.

@@ -19,4 +19,5 @@ overflow_add-result c =
     record { fits = omega (arith, few, c.from.ensures, bit_most c.lane_holds.result) }
 
 pub returns : goal.returns
-returns c = rw (sym (c.lane_holds.ensures c.args.ground.now.sheet.now c.args.ground.now.ahead.now c.args.ground.now.lanes_are)) (omega (arith, c.not_gone.ensures, c.from.ensures, bit_is c.lane_holds.result))
+returns c = rw (sym (c.lane_holds.ensures c.args.ground.now.sheet.now c.args.ground.now.ahead.now c.args.ground.now.lanes_are))
+    (omega (arith, c.not_gone.ensures, c.from.ensures, bit_is c.lane_holds.result))

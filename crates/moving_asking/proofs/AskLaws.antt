@@ -33,7 +33,8 @@ module _ (s p : List ℕ) (lent : Record) (cart : ℕ) where
   unfolding ask
   read_is e =
       ap (λ (r : PlanRead). ask_of r.sheet r.orders lent cart) (readable_whole s p e)
-      ∙ sym (further_read (not_moved (sheet_of s) (orders_read s p) lent cart) (has_moved lent cart) s p (request_checks (sheet_of s) (orders_read s p) lent cart) e)
+      ∙ sym (further_read (not_moved (sheet_of s) (orders_read s p) lent cart) (has_moved lent cart) s p
+      (request_checks (sheet_of s) (orders_read s p) lent cart) e)
 
   -- the same of what reading both answered
   pub ask_refused : (outcome : Outcome) → 0 < outcome.number → read_plan s p ≡ plan_refused outcome → no_move outcome 0 ≡ ask s p lent cart

@@ -20,7 +20,8 @@ pub count_ahead_lem : (n : ℕ) (test : ℕ → Bool) (list : List ℕ) (c : ℕ
 unfolding count_ahead is_ahead
 count_ahead_lem n test [] c once below = sym (count_none n _ (λ d _. refl))
 count_ahead_lem n test (a ∷ list) c once below =
-    go (eqb a c) (count_ahead_lem n test list c (λ e k l h. once (suc e) (suc k) (omega arith) (omega arith)) (λ x (e, l, at). below x (suc e, omega arith, at)))
+    go (eqb a c) (count_ahead_lem n test list c (λ e k l h. once (suc e) (suc k) (omega arith) (omega arith))
+    (λ x (e, l, at). below x (suc e, omega arith, at)))
   where
     first_new : is_ahead list c a ≡ false
     first_new = (not-eq-not {b = false}).0 (λ h. let (e, l, at) = ahead_named list c a h in once 0 (suc e) (omega arith) (omega arith) (sym at))

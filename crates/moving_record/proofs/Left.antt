@@ -77,7 +77,8 @@ module _ (step_table zone_table lane_table ahead_table : List ℕ) (orderly : Or
       λ e.
           let (j, h, there) = says.0 e in
           let inside : j < steps X d = omega (arith, gone_few d l) in
-          record { step = j; is_step = inside; there = zone_is step_table zone_table fronts ahead_table d l j inside ∙ there; past = omega (arith, gone_is d l) },
+          let here = zone_is step_table zone_table fronts ahead_table d l j inside in
+          record { step = j; is_step = inside; there = here ∙ there; past = omega (arith, gone_is d l) },
       λ left.
           says.1 (
             left.step,

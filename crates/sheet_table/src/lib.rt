@@ -18,6 +18,7 @@ pub struct Table {
     pub travel: [u32; 128],
 }
 
+// A reader for each part, by its own name; one for all parts would be told by a number which it reads.
 impl Table {
     // The table with every part 0: what a sheet is read into.
     pub fn blank() -> Table

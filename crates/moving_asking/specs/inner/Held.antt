@@ -35,7 +35,8 @@ module _ (table : Table) (ahead : List ℕ) (carts : ℕ) where
 
   -- the refusal; or no check fails, and the answer is for each zone the carts that have left it
   pub record TestedIn (lent : Record) (cart : ℕ) (tested : Result (List ℕ) Outcome) : Type 0 where
-    pub outcome_is : (zones : ℕ) (count list : List ℕ) → Valid (sheet_in zones carts table) → ValidOrders (sheet_in zones carts table) (orders_in count list ahead)
+    pub outcome_is : (zones : ℕ) (count list : List ℕ) → Valid (sheet_in zones carts table)
+        → ValidOrders (sheet_in zones carts table) (orders_in count list ahead)
         → Leaves (λ outcome. outcome) (tested_of (sheet_in zones carts table) (orders_in count list ahead) lent cart) (λ _. done) tested
     pub standing : IfOk tested (Standing (crossing_of table ahead) lent.position)
 

@@ -1,3 +1,4 @@
+-- Each cart written is one of 16, and there is room for it, since one that may move comes within 16 carts.
 use mathlib.Core.Path.{sym, ◌∙◌}
 use mathlib.Core.Bool.{false≢true}
 use native.Mathlib.Omega.{arith}

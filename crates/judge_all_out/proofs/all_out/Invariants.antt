@@ -6,7 +6,8 @@ use Rattle.judge_all_out.proofs.Turns.{moves_left}
 use Rattle.judge_all_out.proofs.all_out.Given as goal
 
 abbrev pub invariant-loop-still : goal.invariant-loop-still
-invariant-loop-still l = HaveMoved (crossing_of l.ground.sheet.now l.ground.ahead.now) l.at l.left × InsideSet (crossing_of l.ground.sheet.now l.ground.ahead.now) l.at l.inside
+invariant-loop-still l = HaveMoved (crossing_of l.ground.sheet.now l.ground.ahead.now) l.at l.left
+    × InsideSet (crossing_of l.ground.sheet.now l.ground.ahead.now) l.at l.inside
 
 abbrev pub decreases-loop-still : goal.decreases-loop-still
 decreases-loop-still l = moves_left (crossing_of l.ground.sheet.now l.ground.ahead.now) l.at

@@ -1,5 +1,5 @@
 -- Pointing as tables tell it: positions, who is in front on the lanes, zones' lists, and for each zone the set of the carts that have left it.
-use Rattle.std.specs.Prelude.{ℕ, ◌+◌, ◌*◌, ◌-◌, ◌≤◌, ◌<◌, ◌≡◌, not, List, [], get_or, ltb, Option, Some, None}
+use Rattle.std.specs.Prelude.{ℕ, ◌+◌, ◌*◌, ◌-◌, ◌≤◌, ◌<◌, not, List, [], get_or, ltb, Option, Some, None}
 use Rattle.words.specs.Lists.{pick, entries}
 use Rattle.sets.specs.inner.Member.{has}
 use Rattle.routes.specs.Lists.{first_of}

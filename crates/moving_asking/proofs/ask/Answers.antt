@@ -18,7 +18,8 @@ ask_plan-requires c = rw (c.of-ground.ensures.0, c.of-ground.ensures.1) record {
 }
 
 pub returns-in-Ok : goal.returns-in-Ok
-returns-in-Ok c = (rw (c.of-ground.ensures.0, c.of-ground.ensures.1) at c.ask_plan.ensures) _ _ _ (valid_sheet _ _ _ _ _ c.in-Ok.ensures) (valid_orders _ _ _ _ _ c.in-Ok.ensures)
+returns-in-Ok c = (rw (c.of-ground.ensures.0, c.of-ground.ensures.1) at c.ask_plan.ensures) _ _ _
+    (valid_sheet _ _ _ _ _ c.in-Ok.ensures) (valid_orders _ _ _ _ _ c.in-Ok.ensures)
     ∙ ask_read _ _ _ _ _ _ c.in-Ok.ensures
 
 pub returns-in-Err : goal.returns-in-Err

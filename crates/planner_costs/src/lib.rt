@@ -43,11 +43,7 @@ fn wins_tie(facts: &CostFacts, x: usize, a: usize, y: usize, d: usize) -> bool
     requires { (x < 128) × (a < 16) × (y < 128) × (d < 16) }
     ensures { result ≡ wins_tie (zone facts.now.sheet.now) facts.now.rank.now x a y d }
 {
-    let key = |x: usize, a: usize| (
-        facts.sheet.zone(x),
-        facts.rank[a],
-        facts.rank[x / 8],
-    );
+    let key = |x: usize, a: usize| (facts.sheet.zone(x), facts.rank[a], facts.rank[x / 8]);
     key(x, a) < key(y, d)
 }
 
@@ -80,10 +76,7 @@ fn largest_at(facts: &CostFacts, x: usize, best: Option<Choice>) -> Option<Choic
         let a = carts::lowest(others);
         others = carts::rest(others);
         let p = facts.visit[16 * z + a] as usize;
-        let cost = cost_of(
-            facts.enter[p] + facts.sheet.passing(p) + gap,
-            latest,
-        );
+        let cost = cost_of(facts.enter[p] + facts.sheet.passing(p) + gap, latest);
         if is_taken(facts, x, a, cost, most) {
             most = Some(Choice {
                 cost,

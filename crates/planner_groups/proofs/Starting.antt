@@ -33,7 +33,7 @@ use Rattle.planner_orders.specs.inner.Holds.{StepHolds, Holds}
 use Rattle.planner_orders.proofs.Ranks.{start_before}
 use Rattle.planner_orders.proofs.Groups.{none_undecided}
 use Rattle.planner_groups.specs.inner.Pairs.{HasPairs}
-use Rattle.planner_groups.specs.inner.Starting.{visiting_at, Lent, Starts}
+use Rattle.planner_groups.specs.inner.Starting.{visiting_at, Starts}
 use Rattle.planner_groups.proofs.Visitors.{visiting_says}
 use Rattle.sheet_table.specs.declared.Table.{Table}
 

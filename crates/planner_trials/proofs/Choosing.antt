@@ -24,7 +24,6 @@ use Rattle.times.proofs.Largest.{largest_most}
 use Rattle.crossing.specs.inner.Tables.{fronts_of, crossing_by, crossing_of, given_of}
 use Rattle.crossing.specs.Plans.{given_by}
 use Rattle.judge_entering.specs.Times.{times_of}
-use Rattle.judge_entering.specs.inner.Times.{AtMost}
 use Rattle.judge_running.proofs.Verdict.{settled_times}
 use Rattle.judge_finish.specs.inner.Finish.{last_at, last_leaving, Leavable}
 use Rattle.judge_finish.proofs.Finish.{finish_is}
@@ -51,7 +50,6 @@ use Rattle.planner_costs.specs.inner.Choices.{ChosenBelow}
 use Rattle.planner_costs.specs.declared.Choice.{Choice}
 use Rattle.planner_costs.proofs.Group.{choice_none, choice_some}
 use Rattle.planner_trials.specs.inner.Trying.{Told}
-use Rattle.judge_verdict.specs.inner.Verdict.{Runs}
 use Rattle.planner_trials.specs.inner.Turns.{RunsOut, Underway, Chooses, Chosen}
 use Rattle.judge_one_move.specs.declared.Run.{Run}
 use Rattle.std.specs.Prelude.{Option, Some, None}
@@ -220,7 +218,7 @@ module _ (sheet : Table) (ranks visit behind undecided : List ℕ) (run : Run) (
   chosen_told choice chosen = record {
     candidate = λ r e.
         let is : ChosenBelow (tables_of (parts.zone sheet) (parts.cross sheet) (parts.passing sheet) ranks visit undecided run.enter spare) 128
-            (Some r) = rw e at chosen in
+        (Some r) = rw e at chosen in
         record { step_below = is.step_below; first_below = is.first_below; still_undecided = is.still_undecided };
     tells = λ pairs ahead runs_out W low high decided told holds.
         on_tables sheet ranks pairs visit

@@ -5,7 +5,7 @@ use mathlib.Core.Bool.{Bool, true, false, true≢false}
 use mathlib.Core.Option.{Option, none}
 use mathlib.Core.List.{List, ◌∷◌}
 use native.Mathlib.Nat.{div-add-mod}
-use lib.ListN.{length, get_or}
+use lib.ListN.{get_or}
 use Rattle.sheet_table.specs.inner.Parts as parts
 use Rattle.sets.specs.inner.Member.{has}
 use Rattle.routes.specs.Crossing.{steps, zone}

@@ -4,7 +4,6 @@ use mathlib.Core.Path.{◌≡◌, sym, ◌∙◌}
 use mathlib.Core.Bool.{Bool, true, false, true≢false}
 use mathlib.Core.Option.{some}
 use mathlib.Core.List.{List}
-use lib.ListN.{length}
 use Rattle.times.specs.Times.{Given}
 use Rattle.crossing.specs.inner.Tables.{crossing_of, given_of}
 use Rattle.removal.specs.Pairs.{Unplanned, Order}
@@ -50,8 +49,8 @@ module _ (sheet : Table) (ranks pairs visit : List ℕ) (low high : ℕ) (ahead�
       underway = record { U = triable.U; low = low; high = high; decided = triable.decided; told = triable.told; holds = held };
       runs_out =
           let out =
-              sym (run_says sheet ranks pairs visit ahead behind undecided run stuck runs triable.U triable.told low high triable.decided held)
-              ∙ group_starts triable.U triable.told.sheet_sized.able low high triable.decided triable.rising triable.solved.below in
+          sym (run_says sheet ranks pairs visit ahead behind undecided run stuck runs triable.U triable.told low high triable.decided held)
+          ∙ group_starts triable.U triable.told.sheet_sized.able low high triable.decided triable.rising triable.solved.below in
           rw (none_out stuck out) at runs;
     }
 

@@ -1,12 +1,10 @@
 -- What is tried from here on is what was tried at the start: each turn of the loop is a turn of the trial.
-use Prim.Native.Nat.{ℕ, suc, ◌<◌}
+use Prim.Native.Nat.{ℕ, ◌<◌}
 use mathlib.Core.Path.{◌≡◌, refl, sym, ap, ◌∙◌}
-use mathlib.Core.Bool.{Bool, true, false, true≢false}
+use mathlib.Core.Bool.{true, false, true≢false}
 use mathlib.Core.Option.{none}
 use mathlib.Core.List.{List}
-use native.Mathlib.Omega.{arith}
 use Rattle.sheet_table.specs.inner.Parts as parts
-use Rattle.words.specs.Lists.{pick}
 use Rattle.moves.specs.System.{sum}
 use Rattle.crossing.specs.inner.Tables.{crossing_of, given_of}
 use Rattle.removal.specs.Pairs.{Unplanned, Order}

@@ -55,7 +55,12 @@ fn choose(known: &Known, present: &Present, run: &Run) -> Option<Choice>
 }
 
 // The opposite of the chosen order is decided; where carts are stuck then, this direction instead. Answers who is stuck at the end, if anybody is.
-fn decide_either(known: &Known, present: &mut Present, run: &mut Run, choice: Choice) -> Option<usize>
+fn decide_either(
+    known: &Known,
+    present: &mut Present,
+    run: &mut Run,
+    choice: Choice,
+) -> Option<usize>
     requires { Decidable known.now.sheet.now known.now.visit present.old.ahead present.old.behind present.old.undecided
         choice.step choice.first }
     ensures { Decided known.now.sheet.now known.now.visit present.old.ahead present.old.behind

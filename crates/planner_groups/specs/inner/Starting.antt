@@ -1,5 +1,5 @@
 -- The tables at the start, before any group is opened: carts of one lane go by number, and no pair is ordered.
-use Rattle.std.specs.Prelude.{ℕ, ◌/◌, ◌%◌, ◌≡◌, List, [], length, get_or, replicate, ltb}
+use Rattle.std.specs.Prelude.{ℕ, ◌/◌, ◌%◌, ◌≡◌, List, [], get_or, replicate, ltb}
 use Rattle.words.specs.Lists.{pick}
 use Rattle.sheet_table.specs.inner.Parts as parts
 use Rattle.judge_entering.specs.inner.Times.{AtMost}

@@ -39,15 +39,15 @@ module _ (sheet : Sheet) (orders : Orders) (lent : Record) (cart : ℕ) where
       ∙ ap refuse (sym told)
 
 -- the test's own ways out
-pub refused_in : (table ahead : List ℕ) (carts : ℕ) (lent : Record) (cart number : ℕ) → 0 < number
+pub refused_in : {table ahead : List ℕ} {carts : ℕ} {lent : Record} {cart : ℕ} (number : ℕ) → 0 < number
     → ((zones : ℕ) (count list : List ℕ) → Valid (sheet_in zones carts table) → ValidOrders (sheet_in zones carts table) (orders_in count list ahead)
     → tested_of (sheet_in zones carts table) (orders_in count list ahead) lent cart ≡ refused number 0)
     → TestedIn table ahead carts lent cart (Err (refused number 0))
-refused_in table ahead carts lent cart number some says = record { outcome_is = λ zones count list v w. (some, says zones count list v w); standing = tt }
+refused_in number some says = record { outcome_is = λ zones count list v w. (some, says zones count list v w); standing = tt }
 
 -- and where it tells the carts that have left, the checks pass
-pub passed_in : (table ahead : List ℕ) (carts : ℕ) (lent : Record) (cart : ℕ) (left : List ℕ) → TestedIn table ahead carts lent cart (Ok left)
+pub passed_in : {table ahead : List ℕ} {carts : ℕ} {lent : Record} {cart : ℕ} {left : List ℕ} → TestedIn table ahead carts lent cart (Ok left)
     → (zones : ℕ) (count list : List ℕ) (v : Valid (sheet_in zones carts table)) (w : ValidOrders (sheet_in zones carts table) (orders_in count list ahead))
     → AllPass (record_checks (sheet_in zones carts table) (orders_in count list ahead) lent cart)
-passed_in table ahead carts lent cart left is zones count list v w =
+passed_in {table} {ahead} {carts} {lent} {cart} is zones count list v w =
     tested_passes (sheet_in zones carts table) (orders_in count list ahead) lent cart (ap (λ (o : Outcome). o.number) (is.outcome_is zones count list v w))

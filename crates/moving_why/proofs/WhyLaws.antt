@@ -49,18 +49,18 @@ module _ (s p : List ℕ) (lent : Record) (cart : ℕ) where
   why_read sheet orders is = rw is at read_is refl
 
 -- and of what the test told of the tables
-module _ (table : List ℕ) (orders : Orders) (carts : ℕ) (lent : Record) (cart : ℕ) where
-  pub untested_in : (outcome : Outcome) → TestedIn table orders.ahead carts lent cart (Err outcome) → WhyIn table orders carts lent cart (chain_refused outcome)
-  untested_in outcome says zones v w =
+module _ {table : List ℕ} {orders : Orders} {carts : ℕ} {lent : Record} {cart : ℕ} where
+  pub untested_in : {outcome : Outcome} → TestedIn table orders.ahead carts lent cart (Err outcome) → WhyIn table orders carts lent cart (chain_refused outcome)
+  untested_in says zones v w =
       let sheet = sheet_in zones carts table in
       let (positive, is) = says.outcome_is zones orders.count orders.list v w in
       let some : (tested_of sheet orders lent cart).number ≡ 0 → ⊥ = λ e. omega (arith, positive, e, ap (λ (o : Outcome). o.number) is) in
       rw (sym is) (sym (tested_refused sheet orders lent cart chain_refused (chain_from sheet orders lent cart) [] some))
 
-  module _ (left : List ℕ) (says : TestedIn table orders.ahead carts lent cart (Ok left)) where
+  module _ {left : List ℕ} (says : TestedIn table orders.ahead carts lent cart (Ok left)) where
     passed : (zones : ℕ) → Valid (sheet_in zones carts table) → ValidOrders (sheet_in zones carts table) orders
         → AllPass (record_checks (sheet_in zones carts table) orders lent cart)
-    passed zones = passed_in table orders.ahead carts lent cart left says zones orders.count orders.list
+    passed zones = passed_in says zones orders.count orders.list
 
     pub followable_in : PlanIn table orders carts → (lanes : List ℕ) → lanes ≡ lanes_of table → Followable table lanes orders lent.position left cart
     followable_in plan lanes are =

@@ -12,29 +12,29 @@ pub test_cart-requires : goal.test_cart-requires
 test_cart-requires c = (c.requires, c.lanes-lanes.ensures)
 
 pub returns-in-Err : goal.returns-in-Err
-returns-in-Err c = λ n a b v w. c.no_move.ensures ∙ untested_in _ _ _ _ _ _ c.in-Err.ensures n a b v w
+returns-in-Err c = λ n a b v w. c.no_move.ensures ∙ untested_in c.in-Err.ensures n a b v w
 
 pub may_move-requires : goal.may_move-requires
-may_move-requires c = (c.in-Ok.ensures.standing, cart_in _ _ _ _ _ _ c.in-Ok.ensures c.requires, c.lanes-lanes.ensures)
+may_move-requires c = (c.in-Ok.ensures.standing, cart_in c.in-Ok.ensures c.requires, c.lanes-lanes.ensures)
 
 pub carts_ahead-requires : goal.carts_ahead-requires
 carts_ahead-requires c = (
-  wanting_in _ _ _ _ _ _ c.in-Ok.ensures _ c.may_move.ensures c.if-not-may_move.true c.requires,
+  wanting_in c.in-Ok.ensures c.may_move.ensures c.if-not-may_move.true c.requires,
   c.lanes-lanes.ensures,
 )
 
 pub returns-then-not-may_move : goal.returns-then-not-may_move
 returns-then-not-may_move c = λ n a b v w. c.no_move-then-not-may_move.ensures ∙ rw c.refused.ensures
-    (held_in _ _ _ _ _ _ c.in-Ok.ensures _ c.may_move.ensures c.if-not-may_move.true _ c.carts_ahead.ensures n a b v w)
+    (held_in c.in-Ok.ensures c.may_move.ensures c.if-not-may_move.true c.carts_ahead.ensures n a b v w)
 
 pub bounds-at-cart : goal.bounds-at-cart
-bounds-at-cart c = omega (arith, cart_in _ _ _ _ _ _ c.in-Ok.ensures c.requires)
+bounds-at-cart c = omega (arith, cart_in c.in-Ok.ensures c.requires)
 
 pub overflow_add-result : goal.overflow_add-result
-overflow_add-result c = record { fits = omega (arith, place_in _ _ _ _ _ _ c.in-Ok.ensures c.requires) }
+overflow_add-result c = record { fits = omega (arith, place_in c.in-Ok.ensures c.requires) }
 
 pub overflow_add-result-2 : goal.overflow_add-result-2
-overflow_add-result-2 c = record { fits = omega (arith, made_in _ _ _ _ _ _ c.in-Ok.ensures c.requires) }
+overflow_add-result-2 c = record { fits = omega (arith, made_in c.in-Ok.ensures c.requires) }
 
 pub returns : goal.returns
-returns c = λ n a b v w. rw c.done.ensures (moved_in _ _ _ _ _ _ c.in-Ok.ensures _ c.may_move.ensures c.if-not-may_move.false n a b v w)
+returns c = λ n a b v w. rw c.done.ensures (moved_in c.in-Ok.ensures c.may_move.ensures c.if-not-may_move.false n a b v w)

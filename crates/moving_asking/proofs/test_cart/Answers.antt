@@ -10,18 +10,18 @@ pub all_out-requires : goal.all_out-requires
 all_out-requires c = (plan_sound _ c.requires.0.valid _ c.requires.0.valid_orders, c.requires.1)
 
 pub returns-then-not-all_out : goal.returns-then-not-all_out
-returns-then-not-all_out c = rw c.refused.ensures (refused_in _ _ _ _ _ 22 (lit< tt)
+returns-then-not-all_out c = rw c.refused.ensures (refused_in 22 (lit< tt)
     (λ n a b v w. locked_is _ _ v w _ _ _ c.all_out.ensures c.if-not-all_out.true))
 
 pub test_record-requires : goal.test_record-requires
 test_record-requires c = (sheet_orderly _ _ c.requires.0.valid c.requires.0.valid_orders, c.requires.1)
 
 pub returns-in_default : goal.returns-in_default
-returns-in_default c = rw c.refused-in_default.ensures (refused_in _ _ _ _ _ 23 (lit< tt)
+returns-in_default c = rw c.refused-in_default.ensures (refused_in 23 (lit< tt)
     (λ n a b v w. unreached_is _ _ v w _ _ _ c.all_out.ensures c.if-not-all_out.false (rw c.in_default.is at c.test_record.ensures)))
 
 pub returns-then-m-cart : goal.returns-then-m-cart
-returns-then-m-cart c = rw c.refused-then-m-cart.ensures (refused_in _ _ _ _ _ 24 (lit< tt)
+returns-then-m-cart c = rw c.refused-then-m-cart.ensures (refused_in 24 (lit< tt)
     (λ n a b v w. absent_is _ _ v w _ _ _ c.all_out.ensures c.if-not-all_out.false _ c.in-Some.ensures c.if-m-cart.true))
 
 pub steps-requires : goal.steps-requires
@@ -31,7 +31,7 @@ pub bounds-lent-cart : goal.bounds-lent-cart
 bounds-lent-cart c = omega (arith, cart_few _ c.requires.0.valid _ c.if-m-cart.false)
 
 pub returns-then-steps-from : goal.returns-then-steps-from
-returns-then-steps-from c = rw c.refused-then-steps-from.ensures (refused_in _ _ _ _ _ 25 (lit< tt)
+returns-then-steps-from c = rw c.refused-then-steps-from.ensures (refused_in 25 (lit< tt)
     (λ n a b v w. already_is _ _ v w _ _ _ c.all_out.ensures c.if-not-all_out.false _ c.in-Some.ensures c.if-m-cart.false
     (rw (c.steps.ensures, c.from.ensures) at c.if-steps-from.true)))
 

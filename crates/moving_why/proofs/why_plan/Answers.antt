@@ -8,10 +8,10 @@ pub lanes-lanes-requires : goal.lanes-lanes-requires
 lanes-lanes-requires c = valid_lanes _ c.requires.valid
 
 pub chain_from-requires : goal.chain_from-requires
-chain_from-requires c = followable_in _ _ _ _ _ _ c.in-Ok.ensures c.requires _ c.lanes-lanes.ensures
+chain_from-requires c = followable_in c.in-Ok.ensures c.requires _ c.lanes-lanes.ensures
 
 pub returns-in-Ok : goal.returns-in-Ok
-returns-in-Ok c = λ n v w. c.chain_from.ensures ∙ chain_in_lem _ _ _ _ _ _ c.in-Ok.ensures n v w
+returns-in-Ok c = λ n v w. c.chain_from.ensures ∙ chain_in_lem c.in-Ok.ensures n v w
 
 pub returns-in-Err : goal.returns-in-Err
-returns-in-Err c = λ n v w. c.no_chain.ensures ∙ untested_in _ _ _ _ _ _ c.in-Err.ensures n v w
+returns-in-Err c = λ n v w. c.no_chain.ensures ∙ untested_in c.in-Err.ensures n v w

@@ -31,7 +31,8 @@ module _ (T : Tables) where
     largest = λ U K. largest_as U (times_of T.enter) (times_of T.spare) same (chosen T r) (R.largest U K);
   }
 
-  module _ (x a : ℕ) (below : x < 128) (few : a < 16) (is : has (get_or T.undecided x 0) a ≡ true) (v : ℤ) (its_cost : CostIs (clear_at T x a) (latest_at T x) v)
+  module _ (x a : ℕ) (below : x < 128) (few : a < 16) (is : has (get_or T.undecided x 0) a ≡ true)
+      (v : ℤ) (its_cost : CostIs (clear_at T x a) (latest_at T x) v)
       (Candidate More : Order → Type 0) (is-more : More (order_at T x a)) (either : (o : Order) → More o → Candidate o ⊎ (o ≡ order_at T x a)) where
     abbrev new : Choice
     new = record { cost = v; step = x; first = a }

@@ -105,7 +105,8 @@ module _ (step_table zone_table lane arrival passing travel follow cross : List 
         let own : place z c ≡ place_at ahead c j = rw there at (sym (place_is c j h)) in
         (j, record { is_step = is_step; at = omega (arith, own, there, at) })
 
-    pub strict_placeable : (table : List ℕ) → Routes step_table zone_table → table ≡ who_visits step_table zone_table → Placeable step_table zone_table ahead table
+    pub strict_placeable : (table : List ℕ) → Routes step_table zone_table → table ≡ who_visits step_table zone_table
+        → Placeable step_table zone_table ahead table
     strict_placeable table sheet-routes visitors_are = record {
       routes = sheet-routes;
       visitors_are = visitors_are;

@@ -58,7 +58,8 @@ module _ (sheet : Table) (rears : List (Option ℕ)) (behind visit enter : List 
             rw (lt-ltb (j + 1) (get_or step_table c 0) (omega (arith, counted)), lt-ltb (suc j) (steps X c) more, alone)
             (ap (λ (x : ℕ). get_or spare x 0) (omega arith) ∙ told c (suc j) more)
         go (no last) =
-            let leaves : leaving X G (times_of enter) c j ≡ get_or enter (8 * c + j) 0 + G.passing c j = rw (le-ltb (suc j) (steps X c) (omega (arith, last))) in
+            let leaves : leaving X G (times_of enter) c j ≡ get_or enter (8 * c + j) 0 + G.passing c j
+            = rw (le-ltb (suc j) (steps X c) (omega (arith, last))) in
             rw (le-ltb (j + 1) (get_or step_table c 0) (omega (arith, counted, last)), le-ltb (suc j) (steps X c) (omega (arith, last)), alone)
             (ap (λ (time : ℕ). finishing - time) (ap (λ (k : ℕ). get_or enter (8 * c + j) 0 + k) (sym (given c j)) ∙ sym leaves))
 

@@ -24,7 +24,8 @@ module _ (step_table zone_table visit : List ℕ) (places : Places step_table zo
   step_place c z v =
       let h : step_in X c z < steps X c = place_below (route X c) z v in
       let l : c < 16 = step_below step_table zone_table [] [] c (step_in X c z) h in
-      let there : get_or zone_table (8 * c + step_in X c z) 0 ≡ z = sym (zone_is step_table zone_table [] [] c l (step_in X c z) h) ∙ place_names (route X c) z v in
+      let there : get_or zone_table (8 * c + step_in X c z) 0 ≡ z
+      = sym (zone_is step_table zone_table [] [] c l (step_in X c z) h) ∙ place_names (route X c) z v in
       ap (λ (y : ℕ). get_or visit (16 * y + c) 0) (sym there) ∙ places.step_at c (step_in X c z) l (omega (arith, steps_is step_table zone_table [] [] c l))
 
   pub visit_place : (c z : ℕ) → Named (get_or (entries 16 0 (route_of step_table zone_table)) c []) z

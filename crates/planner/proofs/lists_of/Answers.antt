@@ -13,4 +13,5 @@ pub finish_of-requires : goal.finish_of-requires
 finish_of-requires c = let l = c.requires.listable in sheet_leavable _ l.valid _ c.verdict_of.ensures.settled.enter_most
 
 pub returns : goal.returns
-returns c = λ n m X l. lists_told _ l.valid X l.passable l.stands c.verdict_of.ensures.settled c.requires.visitors_are c.passing_lists.ensures c.finish_of.ensures
+returns c = λ n m X l.
+    lists_told _ l.valid X l.passable l.stands c.verdict_of.ensures.settled c.requires.visitors_are c.passing_lists.ensures c.finish_of.ensures

@@ -1,3 +1,4 @@
+-- Cart by cart: the candidate is taken over the choice, or the choice stays.
 use mathlib.Core.Path.{sym, ◌∙◌}
 use Rattle.planner_costs.proofs.Scanning.{scan_start, scan_over, scan_stays, scan_end}
 use Rattle.planner_costs.proofs.largest_at.Goals as goal

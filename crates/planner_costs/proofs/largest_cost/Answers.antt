@@ -1,3 +1,4 @@
+-- Step by step: the choice takes in the step's candidates, or there are none.
 use native.Mathlib.Omega.{arith}
 use mathlib.Core.Path.{◌≡◌}
 use Rattle.planner_costs.proofs.Scanning.{scan_skip}

@@ -1,3 +1,4 @@
+-- Once all carts are put, the sets stand for first come.
 use mathlib.Core.Path.{◌≡◌}
 use native.Mathlib.Omega.{arith}
 use Rattle.planner_first_come.proofs.Orders.{put_stands}

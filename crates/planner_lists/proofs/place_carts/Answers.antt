@@ -1,3 +1,4 @@
+-- None is placed at the start, then one cart more.
 use native.Mathlib.Omega.{arith}
 use Rattle.planner_lists.proofs.Placing.{placed_none, placed_next}
 use Rattle.planner_lists.proofs.place_carts.Goals as goal

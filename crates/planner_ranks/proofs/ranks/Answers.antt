@@ -1,3 +1,4 @@
+-- The table has the ranks of the carts passed; in the end of all.
 use native.Mathlib.Omega.{arith}
 use Rattle.words.proofs.Filling.{table_none, table_next}
 use Rattle.planner_ranks.proofs.Ranking.{ranked_all}

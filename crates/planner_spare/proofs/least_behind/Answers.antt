@@ -1,3 +1,4 @@
+-- The lowest member is taken in, and the rest is left.
 use mathlib.Core.Path.{sym, ◌∙◌}
 use Rattle.planner_spare.proofs.Least.{least_none, least_turn}
 use Rattle.planner_spare.proofs.least_behind.Goals as goal

@@ -1,3 +1,4 @@
+-- Each call gives its cart's position.
 use Rattle.std.proofs.Common.{rules}
 use Rattle.words.proofs.Made.{made_table}
 use Rattle.planner_spare.proofs.out_positions.Goals as goal

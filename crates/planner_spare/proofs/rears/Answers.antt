@@ -1,3 +1,4 @@
+-- Cart by cart: it stands behind the cart in front of it, or nobody is in front.
 use mathlib.Core.Path.{sym, ◌∙◌}
 use native.Mathlib.Omega.{arith}
 use Rattle.planner_spare.proofs.RearLaws.{filled_none, filled_more, filled_as_before, filled_all, front_below}
@@ -13,8 +14,10 @@ bounds-rears-f c = front_below _ _ c.lanes-lanes.ensures _ c.loop-c-test.true _ 
 pub loop-c-preserved : goal.loop-c-preserved
 loop-c-preserved c =
     elim c.match-front.branch [
-      | in-Some w ↦ rw w.rears-is (filled_more _ _ c.lanes-lanes.ensures _ c.loop-c-test.true _ c.loop-c.invariant _ (sym c.front.ensures ∙ w.in-Some.is))
-      | in_default w ↦ rw w.rears-is (filled_as_before _ _ c.lanes-lanes.ensures _ c.loop-c-test.true _ c.loop-c.invariant (sym c.front.ensures ∙ w.in_default.is))
+      | in-Some w ↦ rw w.rears-is
+          (filled_more _ _ c.lanes-lanes.ensures _ c.loop-c-test.true _ c.loop-c.invariant _ (sym c.front.ensures ∙ w.in-Some.is))
+      | in_default w ↦ rw w.rears-is
+          (filled_as_before _ _ c.lanes-lanes.ensures _ c.loop-c-test.true _ c.loop-c.invariant (sym c.front.ensures ∙ w.in_default.is))
     ]
 
 pub returns : goal.returns

@@ -1,3 +1,4 @@
+-- A move taken back is a step, whose spare time is put, or the move out.
 use Prim.Native.Nat.{◌-◌}
 use native.Mathlib.Omega.{arith}
 use Rattle.planner_spare.proofs.Back.{back_start, back_end, turn_some, turn_out, turn_step}

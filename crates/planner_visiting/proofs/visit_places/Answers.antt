@@ -1,3 +1,4 @@
+-- None is placed at the start, then one step more.
 use native.Mathlib.Omega.{arith}
 use Rattle.planner_visiting.proofs.Filling.{placed_none, placed_next}
 use Rattle.planner_visiting.proofs.visit_places.Goals as goal

@@ -25,6 +25,7 @@ use sets::carts;
 use sheet_table::Table;
 
 // For each lane the set of the carts on it; then, from 16 on, for each cart one more than the cart next in front of it, 0 where there is none.
+// It stays a list of numbers: `front`, `front_gone` and `lane_holds` promise of any such list, and a type that keeps a fact would ask more.
 pub type Lanes = [u16; 32];
 
 // The lanes of a sheet, in one pass over its carts.
@@ -141,7 +142,7 @@ pub fn lane_holds(lanes: &Lanes, at: &[u8; 16], c: usize) -> bool
     !front_gone(lanes, at, c)
 }
 
-// The first entering time of the cart next in front of cart c, of the carts on its lane; 0 where there is none.
+// The first entering time of the cart next in front of cart c, of the carts on its lane; 0, the least of times, where there is none.
 pub fn front_enters(mates: u16, enter: &[u32; 128], c: usize) -> u32
     requires { c < 16 }
     ensures { result ≡ front_time (member_before mates c) enter.now }
@@ -169,7 +170,7 @@ fn latest_clear(leave: &[u32; 384], z: usize, gap: u32, members: u16, ready: u32
 }
 
 // Cart c enters the zone of its step at x as soon as it is ready and clear of every cart ahead; answers the time.
-// `mates` are the carts on its lane; absent ones are never ahead.
+// `mates` are the carts on its lane; absent ones are never ahead. Its tables stay apart: who calls has two of them in a `Run`, which is made above.
 pub fn enter_zone(
     sheet: &Table,
     ahead: &[u16; 128],

@@ -47,7 +47,7 @@ pub fn wanted_zone(sheet: &Table, at: &[u8; 16], c: usize) -> usize
     0
 }
 
-// The first cart in zone z's list which has not left it.
+// The first cart in zone z's list which has not left it; 0, as `first_of` says, where all have. Count and list are as in C's struct.
 fn first_not_left(orders: &Orders, left: &[u16; 24], z: usize) -> usize
     requires { (z < 24) × Listable orders.now.count orders.now.list z }
     ensures { (result ≡ first_not_left orders.now.count orders.now.list left.now z) × (result < 16) }
@@ -97,6 +97,7 @@ pub fn wanted_zones(sheet: &Table, at: &[u8; 16]) -> [u8; 16]
 }
 
 // The cart that cart c points to: the one in front where the lane holds it, else the first in the wanted zone's list which has not left it.
+// `Pointable` stays a clause: it is of a sheet, orders and positions, which no one value has.
 pub fn points_to(
     ground: &Ground,
     orders: &Orders,

@@ -18,7 +18,7 @@ use sets::carts;
 use sheet_table::Table;
 
 // Cart c, which may move, makes its first move if it stands in its lane; answers who is next behind it, whom the lane holds no more then.
-// `mates` are the carts on its lane.
+// `mates` are the carts on its lane. `Underway` stays a clause of the three: it is of a sheet and orders too, and does not hold between a move's stores.
 fn start(sheet: &Table, ahead: &[u16; 128], mates: u16, run: &mut Run, c: usize) -> u16
     requires { Underway (crossing_of sheet.now ahead.now) (given_of sheet.now) run.old × (c < 16)
         × Permitted (system (crossing_of sheet.now ahead.now)) run.old.at c × (mates ≡ present_mates sheet.now c) }

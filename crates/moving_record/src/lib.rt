@@ -52,7 +52,7 @@ fn in_turn(sheet: &Table, ahead: &[u16; 128], left: &[u16; 24], c: usize, k: usi
     true
 }
 
-// The same of every step that a cart has entered.
+// The same of every step that a cart has entered. Positions and sets are a record's, of which no `Run` is known yet.
 fn all_in_turn(sheet: &Table, ahead: &[u16; 128], at: &[u8; 16], left: &[u16; 24]) -> bool
     requires { Routes (steps sheet.now) (zone sheet.now) }
     ensures { (result ≡ true) ↔ AllInTurn (steps sheet.now) (zone sheet.now) ahead.now at.now

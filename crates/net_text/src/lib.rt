@@ -81,7 +81,7 @@ impl TextLine {
     }
 }
 
-// The step of cart d in zone z; 0 where it has none there.
+// The step of cart d in zone z; 0, as `step_of` says, where it has none there.
 fn step_in(net: &Net, d: usize, z: usize) -> usize
     requires { d < 16 }
     ensures { (result ≡ step_of net.now.sheet.now d z) × (result < 8) }

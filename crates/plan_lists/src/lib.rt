@@ -92,7 +92,7 @@ pub struct ListScan {
 }
 
 // The lists of n zones, read into blank orders: nested loops over zones and entries, left by the label at the first byte that breaks a rule.
-// At 16 * z + i of before stand the carts ahead of cart i in zone z's list.
+// At 16 * z + i of before stand the carts ahead of cart i in zone z's list. `who` and `lead` are read, the other two filled: one struct would be taken apart at once.
 pub fn scan_lists(
     p: &[u8],
     start: usize,

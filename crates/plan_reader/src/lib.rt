@@ -90,7 +90,7 @@ pub fn read_orders(
 }
 
 // A sheet and a plan for it read into blank tables, the sheet fully before the plan: the counts, or the first of checks 1 to 21 that fails.
-// Reading a plan, judging and requests all begin so.
+// Reading a plan, judging and requests all begin so. That the orders are blank stays a clause: they are filled here.
 pub fn read_tables(
     s: &[u8],
     p: &[u8],

@@ -15,7 +15,7 @@ use planner_ranks::ranks;
 use sets::carts;
 use sheet_table::Table;
 
-// The steps of cart c take the visitors of their zones, but for those whose rank is c's or higher.
+// The steps of cart c take the visitors of their zones, but for those whose rank is c's or higher. `Known` is no help: no group is tried here.
 fn put_cart(sheet: &Table, visitors: &[u16; 24], ranks: &[u8; 16], ahead: &mut [u16; 128], c: usize)
     requires { (c < 16) × Routes (steps sheet.now) (zone sheet.now) × PutTo sheet.now visitors.now ranks.now c 0 ahead.old }
     ensures { PutTo sheet.now visitors.now ranks.now (c + 1) 0 ahead.new }

@@ -62,7 +62,7 @@ fn least_behind(facts: &SpareFacts, spare: &[u32; 128], x: usize, time: u32) -> 
     least
 }
 
-// The spare time of the next step, or of a last step finish less its leaving time.
+// The spare time of the next step, or of a last step finish less its leaving time. `StepOf` stays a clause: it is of one step.
 fn spare_alone(facts: &SpareFacts, spare: &[u32; 128], c: usize, j: usize) -> u32
     requires { StepOf facts.now c j }
     ensures { result ≡ alone_in (steps facts.now.sheet.now) (passing facts.now.sheet.now) facts.now.enter.now spare.now facts.now.finish c j }

@@ -107,6 +107,7 @@ fn try_opened(known: &Known, present: &mut Present, low: usize, high: usize) -> 
 }
 
 // The trial of a group: the tables take its orders, or, where it fails, hold what they held.
+// `Triable` stays a clause: it is of what is known, the orders present and the group together, and each call changes two of these.
 pub fn try_group(known: &Known, present: &mut Present, low: usize, high: usize) -> bool
     requires { Triable known.now.sheet.now known.now.ranks known.now.pairs known.now.visit low high present.old.ahead
         present.old.behind present.old.undecided }

@@ -5,6 +5,7 @@ ghost use Rattle.std.specs.Prelude.{◌≡◌, ◌<◌, get_or};
 ghost use Rattle.sheet_table.specs.inner.Parts.{blank_table, follow, cross, lane, arrival, steps, zone, passing, travel};
 
 // A sheet's table, by parts in document 01's order. Carts, zones and steps count from 0; step j of cart c stands at 8 * c + j; unused entries are 0.
+// It keeps no fact of a valid sheet: the reader fills it step by step, so `Valid`, routes and lanes in range stay clauses of who needs them.
 #[repr(C)]
 #[derive(Clone, Copy)]
 pub struct Table {

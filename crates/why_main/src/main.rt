@@ -40,7 +40,7 @@ fn show_chain(rt: &impl Print, chain: &Chain) -> io::Result<()> {
     Ok(())
 }
 
-// The cart after them; 0 where it is not there.
+// The cart after them; what is not there is 0, as in the record.
 fn cart_in(bytes: &[u8]) -> usize {
     let Some((cart, _)) = one_byte(bytes, outside(20)) else {
         return 0;

@@ -14,7 +14,6 @@ ghost use Rattle.planner_solving.specs.inner.Solving.{Solves};
 use planner_groups::start_orders;
 use planner_orders::Present;
 use planner_ranks::ranks;
-use planner_spare::rears;
 use planner_trials::{Known, try_group};
 use planner_visiting::visit_places;
 use sheet_table::Table;
@@ -47,7 +46,6 @@ pub fn solve_sheet(sheet: &Table, visitors: &[u16; 24], m: usize) -> [u16; 128]
         ranks: ranks(sheet, m),
         pairs,
         visit: visit_places(sheet),
-        rears: rears(sheet),
     };
     solve(&known, &mut present, 0, m);
     present.ahead

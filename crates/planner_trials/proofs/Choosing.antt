@@ -24,6 +24,7 @@ use Rattle.times.proofs.Largest.{largest_most}
 use Rattle.crossing.specs.inner.Tables.{fronts_of, crossing_by, crossing_of, given_of}
 use Rattle.crossing.specs.Plans.{given_by}
 use Rattle.judge_entering.specs.Times.{times_of}
+use Rattle.judge_entering.specs.inner.Times.{AtMost}
 use Rattle.judge_running.proofs.Verdict.{settled_times}
 use Rattle.judge_finish.specs.inner.Finish.{last_at, last_leaving, Leavable}
 use Rattle.judge_finish.proofs.Finish.{finish_is}
@@ -98,6 +99,10 @@ module _ (sheet : Table) (ranks pairs visit ahead behind undecided : List ℕ) (
       ready rears rears_are finishing is =
           settled_ready sheet rears ahead behind visit G run.at run.left run.enter run.order run.made finishing runs.settled out told.routed
           told.places told.passing_most is behind_visits rears_are
+
+      lanes_most : AtMost 15 (parts.lane sheet)
+      unfolding given_by
+      lanes_most = (told_sound sheet ranks pairs visit ahead behind undecided U told low high decided holds).ranged.lane_most
 
       finish_told : largest (last_leaving (parts.steps sheet) (parts.passing sheet) run.enter) 16 ≡ finish X G (times_of run.enter)
       finish_told =
@@ -194,6 +199,9 @@ module _ (sheet : Table) (ranks pairs visit ahead behind undecided : List ℕ) (
 
   pub trial_leavable : Underway sheet ranks pairs visit ahead behind undecided → Leavable (parts.steps sheet) (parts.passing sheet) run.enter
   trial_leavable = of_trial _ leavable
+
+  pub trial_lanes : Underway sheet ranks pairs visit ahead behind undecided → AtMost 15 (parts.lane sheet)
+  trial_lanes = of_trial _ lanes_most
 
   pub trial_ready : (rears : List (Option ℕ)) → rears ≡ rears_of sheet → (finishing : ℕ) → finishing ≡ largest
       (last_leaving (parts.steps sheet) (parts.passing sheet) run.enter) 16

@@ -12,24 +12,29 @@ use judge_verdict::verdict_of;
 use planner_costs::{Choice, CostFacts, largest_cost};
 use planner_groups::open_group;
 use planner_orders::Present;
-use planner_spare::{SpareFacts, spare_times};
+use planner_spare::{SpareFacts, rears, spare_times};
 use sheet_table::Table;
 
 // What is worked out once for a sheet that is planned: each cart's rank, for each step the carts with which it is a pair,
-// where each cart's step in each zone stands, and for each cart the lane's next one behind it.
+// and where each cart's step in each zone stands.
 #[derive(Clone, Copy)]
 pub struct Known<'a> {
     pub sheet: &'a Table,
     pub ranks: [u8; 16],
     pub pairs: [u16; 128],
     pub visit: [u8; 384],
-    pub rears: [Option<usize>; 16],
-    ghost rears_are: { rears ≡ rears_of sheet.now },
 }
 
 // The order of largest cost among the undecided pairs, by the times of the run; none where no pair is undecided.
-fn choose(known: &Known, present: &Present, run: &Run) -> Option<Choice>
-    requires { Choosable known.now.sheet.now known.now.ranks known.now.visit present.now.behind present.now.undecided run.now }
+// `rears` has for each cart the lane's next one behind it.
+fn choose(
+    known: &Known,
+    rears: &[Option<usize>; 16],
+    present: &Present,
+    run: &Run,
+) -> Option<Choice>
+    requires { Choosable known.now.sheet.now known.now.ranks known.now.visit present.now.behind present.now.undecided run.now
+        × (rears.now ≡ rears_of known.now.sheet.now) }
     ensures { Chosen known.now.sheet.now known.now.ranks known.now.visit present.now.behind
         present.now.undecided run.now result }
 {
@@ -37,7 +42,7 @@ fn choose(known: &Known, present: &Present, run: &Run) -> Option<Choice>
     let mut spare = [0u32; 128];
     let facts = SpareFacts {
         sheet: known.sheet,
-        rears: &known.rears,
+        rears,
         behind: &present.behind,
         visit: &known.visit,
         enter: &run.enter,
@@ -84,7 +89,8 @@ fn try_pairs(known: &Known, present: &mut Present, run: &mut Run) -> bool
     ensures { AllTried known.now.sheet.now known.now.ranks known.now.visit present.old.ahead
         present.old.behind present.old.undecided present.new.ahead present.new.behind present.new.undecided result }
 {
-    while let Some(choice) = choose(known, present, run) {
+    let rears = rears(known.sheet);
+    while let Some(choice) = choose(known, &rears, present, run) {
         if decide_either(known, present, run, choice).is_some() {
             return false;
         }

@@ -16,9 +16,6 @@ ranks-requires c = c.requires.0.1.carts_most
 pub visit_places-requires : goal.visit_places-requires
 visit_places-requires c = sheet_routed _ _ _ c.requires.0.1
 
-pub rears-requires : goal.rears-requires
-rears-requires c = lanes_most _ _ _ c.requires.0.1
-
 pub solve-requires : goal.solve-requires
 solve-requires c = rw c.start_orders.ensures.1
     (sheet_triable _ _ _ c.requires.0.1 c.ranks.ensures c.visit_places.ensures c.start_orders.ensures.0)

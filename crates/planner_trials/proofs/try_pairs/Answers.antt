@@ -1,15 +1,19 @@
 use mathlib.Core.Path.{sym, ◌∙◌}
 use mathlib.Core.Bool.{true, false}
+use Rattle.planner_trials.proofs.Choosing.{trial_lanes}
 use Rattle.planner_trials.proofs.Told.{out_is, none_out}
 use Rattle.planner_trials.proofs.Pairs.{tried_none, pairs_choosable, pairs_tried, pairs_decidable, tried_more, tries_fall}
 use Rattle.planner_trials.proofs.Pairs.{pairs_failed}
 use Rattle.planner_trials.proofs.try_pairs.Goals as goal
 
+pub rears-rears-requires : goal.rears-rears-requires
+rears-rears-requires c = trial_lanes _ _ _ _ _ _ _ _ c.requires.runs_out c.requires.underway
+
 pub loop-choice-init : goal.loop-choice-init
 loop-choice-init c = tried_none _ _ _ _ _ _ _ c.requires
 
 pub choose-requires : goal.choose-requires
-choose-requires c = pairs_choosable _ _ _ _ _ _ _ c.requires _ _ _ _ c.loop-choice.invariant
+choose-requires c = (pairs_choosable _ _ _ _ _ _ _ c.requires _ _ _ _ c.loop-choice.invariant, c.rears-rears.ensures)
 
 pub decide_either-requires : goal.decide_either-requires
 decide_either-requires c = pairs_decidable _ _ _ _ _ _ _ c.requires _ _ _ _ c.loop-choice.invariant _ c.choose.ensures c.in-Some.choice c.in-Some.is

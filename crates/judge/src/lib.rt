@@ -37,6 +37,8 @@ fn not_judged(outcome: Outcome, ring: Ring) -> Judged
 }
 
 // A readable plan judged: 22 with the ring, 28, or its times in the words lent.
+// Never inlined: what is refused before needs no run on the stack.
+#[inline(never)]
 fn judge_orders(sheet: &Table, orders: &Orders, words: &mut [u32]) -> Judged
     requires { HeldIn sheet.now orders.now }
     ensures { JudgedIn sheet.now orders.now words.old result words.new }

@@ -14,7 +14,6 @@ use sheet::blank_sheet;
 use sheet_filling::{sheet_of, step_counts};
 use sheet_reader::{Counts, fill};
 use sheet_table::Table;
-use std::array;
 use words::{Outcome, done, refused};
 
 // The carts ahead at x, which is 8 * i + j for step j of cart i: those ahead of it in the list of the step's zone, none where there is no such step.
@@ -31,12 +30,14 @@ fn ahead_at(sheet: &Table, before: &[u16; 384], x: usize) -> u16
     }
 }
 
-// The carts ahead at each step.
-fn ahead_of(sheet: &Table, before: &[u16; 384]) -> [u16; 128]
-    requires { Routes (steps sheet.now) (zone sheet.now) }
-    ensures { result ≡ ahead_of (steps sheet.now) (zone sheet.now) before.now }
+// The carts ahead at each step, put into a blank table where it stands: made apart and moved, it would be copied.
+fn put_ahead(sheet: &Table, before: &[u16; 384], ahead: &mut [u16; 128])
+    requires { Routes (steps sheet.now) (zone sheet.now) × (ahead.old ≡ no_orders.ahead) }
+    ensures { ahead.new ≡ ahead_of (steps sheet.now) (zone sheet.now) before.now }
 {
-    array::from_fn(|x| ahead_at(sheet, before, x))
+    for x in 0..128 {
+        ahead[x] = ahead_at(sheet, before, x);
+    }
 }
 
 // A refusal: every other part of the answer is 0.
@@ -71,7 +72,7 @@ fn read_lists(
     if let Some(place) = scan.late {
         return Err(refused(21, place));
     }
-    orders.ahead = ahead_of(sheet, &before);
+    put_ahead(sheet, &before, &mut orders.ahead);
     Ok(())
 }
 

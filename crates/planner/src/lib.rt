@@ -40,6 +40,8 @@ struct OrdersPlanned {
 }
 
 // The orders of a table in lists, with their finish: for each step the table has the set of the carts ahead.
+// Never inlined: its run would stay on the stack below the whole solving.
+#[inline(never)]
 fn lists_of(sheet: &Table, visitors: &[u16; 24], ahead: &[u16; 128]) -> OrdersPlanned
     requires { ToList sheet.now visitors.now ahead.now }
     ensures { ListsOf sheet.now ahead.now result }
@@ -63,7 +65,22 @@ fn earlier(removal: OrdersPlanned, first: OrdersPlanned) -> OrdersPlanned
     }
 }
 
+// The better of what the removal rule and first come give a valid sheet of m carts; `visitors` are the zones'.
+// Never inlined: a rule alone needs no tables of two on the stack.
+#[inline(never)]
+fn better_orders(sheet: &Table, visitors: &[u16; 24], m: usize) -> OrdersPlanned
+    requires { ((n : ℕ) × Valid (sheet_in n m sheet.now)) × (visitors.now ≡ who_visits (steps sheet.now) (zone sheet.now)) }
+    ensures { (n : ℕ) → Valid (sheet_in n m sheet.now) → ByRule Rule.Better (sheet_in n m sheet.now) result }
+{
+    earlier(
+        lists_of(sheet, visitors, &solve_sheet(sheet, visitors, m)),
+        lists_of(sheet, visitors, &first_come_orders(sheet, visitors, m)),
+    )
+}
+
 // The orders that a rule gives a valid sheet of m carts, and their finish; `visitors` are the zones'.
+// Never inlined: what is refused before needs no orders on the stack.
+#[inline(never)]
 fn orders_by(rule: Rule, sheet: &Table, visitors: &[u16; 24], m: usize) -> OrdersPlanned
     requires { ((n : ℕ) × Valid (sheet_in n m sheet.now)) × (visitors.now ≡ who_visits (steps sheet.now) (zone sheet.now)) }
     ensures { (n : ℕ) → Valid (sheet_in n m sheet.now) → ByRule rule (sheet_in n m sheet.now) result }
@@ -71,10 +88,7 @@ fn orders_by(rule: Rule, sheet: &Table, visitors: &[u16; 24], m: usize) -> Order
     match rule {
         Rule::Removal => lists_of(sheet, visitors, &solve_sheet(sheet, visitors, m)),
         Rule::First => lists_of(sheet, visitors, &first_come_orders(sheet, visitors, m)),
-        Rule::Better => earlier(
-            orders_by(Rule::Removal, sheet, visitors, m),
-            orders_by(Rule::First, sheet, visitors, m),
-        ),
+        Rule::Better => better_orders(sheet, visitors, m),
     }
 }
 

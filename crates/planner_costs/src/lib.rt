@@ -9,7 +9,6 @@ ghost use Rattle.planner_costs.specs.inner.Choices.{tables_in, is_taken_at, Choo
 
 use sets::carts;
 use sheet_table::Table;
-use std::cmp::Ordering;
 
 // What the costs of the candidates are made of: the sheet, the carts' ranks, where their steps stand, the undecided pairs, and the times of a run.
 #[derive(Clone, Copy)]
@@ -55,11 +54,10 @@ fn is_taken(facts: &CostFacts, x: usize, a: usize, cost: i32, most: Option<Choic
     let Some(most) = most else {
         return true;
     };
-    match cost.cmp(&most.cost) {
-        Ordering::Less => false,
-        Ordering::Equal => wins_tie(facts, x, a, most.step, most.first),
-        Ordering::Greater => true,
+    if cost < most.cost {
+        return false;
     }
+    most.cost < cost || wins_tie(facts, x, a, most.step, most.first)
 }
 
 // The choice among the candidates of the steps below x is `best`; answers the choice among these and those of the step at x.

@@ -79,6 +79,8 @@ pub fn visiting(sheet: &Table, visitors: &[u16; 24], x: usize) -> u16
 }
 
 // The tables before any group is opened: for each step the carts of its lane ahead and behind; and the carts with which it is a pair.
+// Never inlined: its own tables would stay on the stack below every trial.
+#[inline(never)]
 pub fn start_orders(sheet: &Table, visitors: &[u16; 24]) -> (Present, [u16; 128])
     requires { Lent sheet.now visitors.now }
     ensures { Starts sheet.now result.0.ahead result.0.behind result.1 × (result.0.undecided ≡ replicate 128 0) }

@@ -10,12 +10,13 @@ ghost use Rattle.planner_lists.specs.inner.Places.{Placeable, PlacedTo, Listed};
 use plan::Orders;
 use sets::carts;
 use sheet_table::Table;
+use std::array;
 
 // For each zone the number of its visitors.
 fn counts(visitors: &[u16; 24]) -> [u8; 24]
     ensures { result ≡ entries 24 0 (λ z. ones (get_or visitors.now z 0)) }
 {
-    visitors.map(|who| carts::count(who) as u8)
+    array::from_fn(|z| carts::count(visitors[z]) as u8)
 }
 
 // Every cart at its place in the lists of the zones that it visits.
@@ -35,6 +36,8 @@ fn place_carts(sheet: &Table, visitors: &[u16; 24], ahead: &[u16; 128]) -> [u8; 
 }
 
 // The orders with their passing lists: a cart's place in a zone's list is the number of carts ahead of it there.
+// Never inlined: its tables would stand on the stack beside the caller's run.
+#[inline(never)]
 pub fn passing_lists(sheet: &Table, visitors: &[u16; 24], ahead: &[u16; 128]) -> Orders
     requires { Placeable (steps sheet.now) (zone sheet.now) ahead.now visitors.now }
     ensures { Listed (steps sheet.now) (zone sheet.now) ahead.now visitors.now result }

@@ -1,5 +1,5 @@
 -- A table of ranks counted cart by cart, and they are the removal rule's.
-use Prim.Native.Nat.{ℕ, zero, suc, ◌≤◌, ◌<◌}
+use Prim.Native.Nat.{ℕ, zero, suc, ◌+◌, ◌≤◌, ◌<◌}
 use mathlib.Core.Path.{◌≡◌, refl, sym, ap, ◌∙◌}
 use mathlib.Core.Bool.{Bool, true, false, cond}
 use mathlib.Core.List.{List}
@@ -14,7 +14,7 @@ use Rattle.words.proofs.Filling.{table_used, table_unused}
 use Rattle.sets.specs.Counting.{bit, count_below}
 use Rattle.sets.proofs.Counting.{count_same}
 use Rattle.removal.specs.Pairs.{Unplanned, rank}
-use Rattle.planner_ranks.specs.inner.Ranks.{rank_in, Ranks}
+use Rattle.planner_ranks.specs.inner.Ranks.{comes_before_in, rank_in, Ranks}
 
 -- ---- counting
 
@@ -30,6 +30,17 @@ count_range (suc m) test =
     ap (λ n. count_by test (range_with_len 0 n)) (sym (add-one m))
     ∙ (simp map-id at (sum_by-map-range_with_len_more (λ i. cond (test i) 1 0) (λ (i : ℕ). i) 0 m m (omega arith)))
     ∙ omega (arith, count_range m test, bit_is (test m))
+
+-- one cart more
+pub count_next : (n : ℕ) (test : ℕ → Bool) (b : Bool) (rank more : ℕ) → rank ≡ count_below n test → more ≡ bit b → b ≡ test n
+    → rank + more ≡ count_below (n + 1) test
+unfolding count_below
+count_next n test b rank more so_far is e = rw (add-one n, so_far, is, e) (omega arith)
+
+-- all m counted
+pub rank_all : (arrival : List ℕ) (m n c rank : ℕ) → n ≡ m → rank ≡ count_below n (λ d. comes_before_in arrival d c) → rank ≡ rank_in arrival m c
+rank_all arrival m n c rank e counted =
+    counted ∙ ap (λ (k : ℕ). count_below k (λ d. comes_before_in arrival d c)) e ∙ sym (count_range m (λ d. comes_before_in arrival d c))
 
 -- ---- the table
 

@@ -20,7 +20,11 @@ fn rank_of(sheet: &Table, m: usize, c: usize) -> u8
     requires { (m ≤ 16) × (c < 16) }
     ensures { result ≡ rank_in (arrival sheet.now) m c }
 {
-    (0..m).filter(|d| comes_before(sheet, *d, c)).count() as u8
+    let mut rank = 0;
+    for d in 0..m {
+        rank += u8::from(comes_before(sheet, d, c));
+    }
+    rank
 }
 
 // The rank of each of the m carts.

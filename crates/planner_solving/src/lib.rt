@@ -40,13 +40,13 @@ pub fn solve_sheet(sheet: &Table, visitors: &[u16; 24], m: usize) -> [u16; 128]
     requires { ((n : ℕ) × Valid (sheet_in n m sheet.now)) × (visitors.now ≡ who_visits (steps sheet.now) (zone sheet.now)) }
     ensures { (n : ℕ) → Valid (sheet_in n m sheet.now) → StandsBy by_removal sheet.now n m result }
 {
-    let (mut present, pairs) = start_orders(sheet, visitors);
+    let mut started = start_orders(sheet, visitors);
     let known = Known {
         sheet,
         ranks: ranks(sheet, m),
-        pairs,
+        pairs: started.1,
         visit: visit_places(sheet),
     };
-    solve(&known, &mut present, 0, m);
-    present.ahead
+    solve(&known, &mut started.0, 0, m);
+    started.0.ahead
 }

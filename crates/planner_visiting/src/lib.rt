@@ -7,6 +7,8 @@ ghost use Rattle.planner_visiting.specs.inner.Visiting.{RoutesOnce, Places};
 use sheet_table::Table;
 
 // For each zone and cart where the cart's step in the zone stands.
+// Never inlined: its own table would stay on the stack below every trial.
+#[inline(never)]
 pub fn visit_places(sheet: &Table) -> [u8; 384]
     requires { RoutesOnce (steps sheet.now) (zone sheet.now) }
     ensures { Places (steps sheet.now) (zone sheet.now) result }

@@ -33,6 +33,8 @@ pub fn show_refusal(rt: &impl Print, outcome: Outcome) -> io::Result<()> {
     rt.println(Refusal(outcome))
 }
 
+// Never inlined, like the next two: each has a line of its own on the stack.
+#[inline(never)]
 fn show_zones(rt: &impl Print, sheet: &Sheet) -> io::Result<()> {
     for z in 0..sheet.zones.min(24) {
         let (follow, cross) = (sheet.follow[z], sheet.cross[z]);
@@ -42,6 +44,7 @@ fn show_zones(rt: &impl Print, sheet: &Sheet) -> io::Result<()> {
 }
 
 // The steps of cart i.
+#[inline(never)]
 fn show_steps(rt: &impl Print, sheet: &Sheet, i: usize) -> io::Result<()>
     requires { i < 16 }
 {
@@ -55,6 +58,7 @@ fn show_steps(rt: &impl Print, sheet: &Sheet, i: usize) -> io::Result<()>
     Ok(())
 }
 
+#[inline(never)]
 fn show_carts(rt: &impl Print, sheet: &Sheet) -> io::Result<()> {
     for i in 0..sheet.carts.min(16) {
         println!(rt;

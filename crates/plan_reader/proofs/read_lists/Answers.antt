@@ -1,5 +1,5 @@
 -- How the scan is left, and the tests after it, say how the pass ends.
-use mathlib.Core.Path.{refl, ap}
+use mathlib.Core.Path.{refl, ap, ◌∙◌}
 use native.Mathlib.Omega.{arith}
 use lib.Dec.{lit<}
 use Rattle.std.proofs.lemmas.Result.{err_from_is_err_and}
@@ -49,9 +49,9 @@ returns-in-Some c = rw c.refused-in-Some.ensures (
       c.scan_lists.new.orders _ c.in_ok-scan.ensures.1 c.if-scan-p.false _ c.in-Some.is,
 )
 
-pub ahead_of-orders-requires : goal.ahead_of-orders-requires
-ahead_of-orders-requires c = c.requires.0.routes
+pub put_ahead-requires : goal.put_ahead-requires
+put_ahead-requires c = (c.requires.0.routes, c.in_ok-scan.ensures.0 ∙ ap (λ (o : Orders). o.ahead) c.requires.1)
 
 pub returns : goal.returns
 returns c = lists_read _ _ _ _ _ _ _ _ (rw c.step_counts.ensures at c.who_visits-who.ensures) c.may_lead-lead.ensures _
-    c.scan_lists.new.orders _ c.in_ok-scan.ensures.1 c.if-scan-p.false c.in_default.is _ c.ahead_of-orders.ensures
+    c.scan_lists.new.orders _ c.in_ok-scan.ensures.1 c.if-scan-p.false c.in_default.is _ c.put_ahead.ensures

@@ -2,8 +2,8 @@
 use native.Mathlib.Omega.{arith}
 use Rattle.planner_costs.proofs.is_taken.Goals as goal
 
-pub returns-in-Less : goal.returns-in-Less
-returns-in-Less c = grind arith
+pub returns-then-cost-most : goal.returns-then-cost-most
+returns-then-cost-most c = grind arith
 
-pub returns-in-Greater : goal.returns-in-Greater
-returns-in-Greater c = grind arith
+pub returns-then-most-cost : goal.returns-then-most-cost
+returns-then-most-cost c = grind arith

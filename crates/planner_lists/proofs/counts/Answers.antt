@@ -1,7 +1,7 @@
 -- Entry by entry, the number of the zone's visitors.
 use Rattle.std.proofs.Common.{rules}
-use Rattle.words.proofs.Entries.{entries_is}
+use Rattle.words.proofs.Made.{made_table}
 use Rattle.planner_lists.proofs.counts.Goals as goal
 
 pub returns : goal.returns
-returns c = entries_is c.map.result 24 _ c.map.ensures.items.long (λ k l. let (p, q, called) = c.map.ensures.items.at k 0 0 l in search rules)
+returns c = made_table c.from_fn.ensures.items _ (λ i y q h call. search rules)

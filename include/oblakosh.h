@@ -22,8 +22,8 @@
    Who owns what. All memory is the caller's. It is lent for the call: the library keeps no pointer, allocates nothing and
    has no state, so calls need no order and may be made from several threads. Answers are returned by value.
 
-   Stack, measured (bench/run, with rattle-kit-13f): reading a plan takes 6 KB, judging 6 KB, a request 4 KB, planning 12 KB,
-   by the better of both rules 15 KB.
+   Stack, measured with rattle-kit-13f: reading a plan takes 6 KB, judging 6 KB, a request 4 KB, planning 12 KB, by the better of
+   both rules 15 KB.
 
    Carts, zones, steps and places count from 0; times are milliseconds; unused entries are 0. */
 #ifndef OBLAKOSH_H
